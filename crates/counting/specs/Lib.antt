@@ -1,0 +1,4 @@
+pub mod Trees
+pub mod Rows
+pub mod TreeLaws
+pub mod Multipliers

@@ -1,0 +1,1 @@
+// Definitions and theorems only, in specs/: the arithmetic of the counting step.

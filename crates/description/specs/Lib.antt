@@ -1,0 +1,4 @@
+pub mod Literals
+pub mod Descriptions
+pub mod Roles
+pub mod Acceptance

@@ -1,0 +1,1 @@
+// Definitions and laws only, in specs/: descriptions, their roles, and when one is accepted.

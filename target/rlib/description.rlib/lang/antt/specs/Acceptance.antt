@@ -1,0 +1,142 @@
+-- When a description is accepted: tests 3 to 8 of the table of refusals (FORMAT 3), stated and as tests in the table's order.
+-- Each test is made of tests of one item against the table. What only bytes can get wrong (the transitive byte, an unknown
+-- kind, a field that is not used, the lengths of parts) is tested where bytes are read.
+use Prim.Native.Nat.{ℕ, zero, suc, _≤_, _<_}
+use mathlib.Core.Path.{_≡_, refl, sym, _∙_, subst}
+use mathlib.Core.Logic.{_↔_, _≢_, Iff·rfl}
+use mathlib.Core.Bool.{Bool, not, _&&_}
+use mathlib.Core.Option.{Option, none}
+use native.Mathlib.Omega.{arith}
+use native.Mathlib.Decide.{decLt}
+use lib.Dec.{eqb, leb, ltb}
+use Rattle.logic.specs.Tests.{So, _⇒_, reading}
+use Rattle.logic.specs.Bounded.{allBelow, anyBelow, below}
+use Rattle.logic.specs.Sets.{narrow}
+use Rattle.logic.specs.SetLaws.{narrow↔}
+use Rattle.logic.specs.Refusals.{unless, unless↔}
+use Rattle.description.specs.Literals.{Literal, entryOf}
+use Rattle.description.specs.Descriptions.{Entry, top, name, both, every, atLeast, Description, included, compound, sameEntry, sameEntry↔, ifEvery, ifLeast, kinds}
+use Rattle.description.specs.Roles.{ancestor, simple}
+
+-- the greatest number of an "at least"
+abbrev pub greatestNumber : ℕ
+greatestNumber = 1000
+
+-- 4, at entry e: top is entry 0 and no other; literals are of earlier entries, roles of the table, numbers 1 to 1,000
+abbrev pub EntryOk : Description → ℕ → Entry → Type 0
+EntryOk D e top = e ≡ 0
+EntryOk D e name = 0 < e
+EntryOk D e (both a b) = (entryOf a < e) × (entryOf b < e)
+EntryOk D e (every r l) = (r < D .roles) × (entryOf l < e)
+EntryOk D e (atLeast r l n) = ((r < D .roles) × (entryOf l < e)) × ((1 ≤ n) × (n ≤ greatestNumber))
+
+-- 7, of "every R l": for each transitive T with ancestor R there is an "every T l", anywhere in the table
+abbrev pub Passed : Description → ℕ → Literal → Type 0
+Passed D r l = (t : ℕ) → t < D .roles → So (D .transitive t) → So (ancestor D t r) → (f : ℕ) × (f < D .entries) × (every t l ≡ D .entry f)
+
+pub record Accepted (D : Description) : Type 0 where
+  -- 2, of which the theory needs no more: there is a role and an entry
+  pub some-role : 1 ≤ D .roles
+  pub some-entry : 1 ≤ D .entries
+  -- 3: no parent bit past the last role
+  pub parents-in : (r : ℕ) → r < D .roles → (s : ℕ) → So (included D r s) → s < D .roles
+  -- 4
+  pub fields : (e : ℕ) → e < D .entries → EntryOk D e (D .entry e)
+  -- 5: an "at least" counts over a simple role
+  pub simples : (e : ℕ) → e < D .entries → (r : ℕ) (l : Literal) (n : ℕ) → D .entry e ≡ atLeast r l n → So (simple D r)
+  -- 6: of kinds 2 to 4, no entry has all fields as an earlier one
+  pub distinct : (f : ℕ) → f < D .entries → (e : ℕ) → e < f → So (compound (D .entry e)) → D .entry e ≢ D .entry f
+  -- 7
+  pub passes : (e : ℕ) → e < D .entries → (r : ℕ) (l : Literal) → D .entry e ≡ every r l → Passed D r l
+  -- 8: the root and the rules are literals of the table
+  pub root-in : entryOf (D .root) < D .entries
+  pub rules-in : (i : ℕ) → i < D .rules → entryOf (D .rule i) < D .entries
+
+-- ---- the tests
+-- 3, of one role
+abbrev pub roleTest : Description → ℕ → Bool
+roleTest D r = narrow (D .parents r) (D .roles)
+
+-- 4, of one entry
+unfoldable pub entryTest : Description → ℕ → Entry → Bool
+entryTest D e top = eqb e 0
+entryTest D e name = ltb 0 e
+entryTest D e (both a b) = ltb (entryOf a) e && ltb (entryOf b) e
+entryTest D e (every r l) = ltb r (D .roles) && ltb (entryOf l) e
+entryTest D e (atLeast r l n) = (ltb r (D .roles) && ltb (entryOf l) e) && (leb 1 n && leb n greatestNumber)
+
+-- 5, of one entry
+abbrev pub simpleTest : Description → Entry → Bool
+simpleTest D = ifLeast (λ r l n. simple D r)
+
+-- 6, of an entry put at place f
+abbrev pub distinctTest : Description → ℕ → Entry → Bool
+distinctTest D f x = allBelow f (λ e. compound (D .entry e) ⇒ not (sameEntry (D .entry e) x))
+
+-- 7, of one entry
+abbrev pub passedTest : Description → Entry → Bool
+passedTest D = ifEvery (λ r l. allBelow (D .roles) (λ t. D .transitive t ⇒ (ancestor D t r ⇒ anyBelow (D .entries) (λ f. sameEntry (every t l) (D .entry f)))))
+
+-- 8, of one literal
+abbrev pub literalTest : Description → Literal → Bool
+literalTest D l = ltb (entryOf l) (D .entries)
+
+-- the first of 3 to 8 that refuses, each over the whole description
+unfoldable pub descriptionRefusal : Description → Option ℕ
+descriptionRefusal D =
+    unless (allBelow (D .roles) (roleTest D)) 3
+    (unless (allBelow (D .entries) (λ e. entryTest D e (D .entry e))) 4
+    (unless (allBelow (D .entries) (λ e. simpleTest D (D .entry e))) 5
+    (unless (allBelow (D .entries) (λ f. distinctTest D f (D .entry f))) 6
+    (unless (allBelow (D .entries) (λ e. passedTest D (D .entry e))) 7
+    (unless (literalTest D (D .root) && allBelow (D .rules) (λ i. literalTest D (D .rule i))) 8 none)))))
+
+-- ---- the tests say what they should
+pub entry↔ : (D : Description) (e : ℕ) (x : Entry) → So (entryTest D e x) ↔ EntryOk D e x
+unfolding entryTest
+entry↔ D e top = simp reading Iff·rfl
+entry↔ D e name = simp reading Iff·rfl
+entry↔ D e (both a b) = simp reading Iff·rfl
+entry↔ D e (every r l) = simp reading Iff·rfl
+entry↔ D e (atLeast r l n) = simp reading Iff·rfl
+
+-- refused by none of 3 to 8 exactly if accepted
+pub accepted↔ : (D : Description) → 1 ≤ D .roles → 1 ≤ D .entries → (descriptionRefusal D ≡ none) ↔ Accepted D
+unfolding descriptionRefusal
+accepted↔ D h1 h2 = simp (unless↔, below, kinds, narrow↔, entry↔) (
+  λ t. record {
+    some-role = h1;
+    some-entry = h2;
+    parents-in = t .0;
+    fields = t .1 .0;
+    simples = t .1 .1 .0;
+    distinct = t .1 .1 .1 .0;
+    passes = t .1 .1 .1 .1 .0;
+    root-in = t .1 .1 .1 .1 .1 .0 .0;
+    rules-in = t .1 .1 .1 .1 .1 .0 .1;
+  },
+  λ A. (A .parents-in, (A .fields, (A .simples, (A .distinct, (A .passes, ((A .root-in, A .rules-in), refl)))))),
+)
+
+-- ---- what follows
+module _ (D : Description) (A : Accepted D) where
+  -- entry 0 is top
+  pub first-top : D .entry 0 ≡ top
+  first-top = go (D .entry 0) (A .fields 0 (A .some-entry))
+    where
+      go : (x : Entry) → EntryOk D 0 x → x ≡ top
+      go top h = refl
+      go name h = absurd (omega arith)
+      go (both a b) h = absurd (omega arith)
+      go (every r l) h = absurd (omega arith)
+      go (atLeast r l n) h = absurd (omega arith)
+
+  pub fields-at : (e : ℕ) (x : Entry) → e < D .entries → D .entry e ≡ x → EntryOk D e x
+  fields-at e x h q = subst (EntryOk D e) q (A .fields e h)
+
+  -- "every T l" is one entry
+  pub every-one : (e f t : ℕ) (l : Literal) → e < D .entries → f < D .entries → D .entry e ≡ every t l → D .entry f ≡ every t l → e ≡ f
+  every-one e f t l he hf p q = elim (decLt e f) [
+    | yes h ↦ absurd (A .distinct f hf e h (rw p refl) (p ∙ sym q))
+    | no h ↦ elim (decLt f e) [ yes g ↦ absurd (A .distinct e he f g (rw q refl) (q ∙ sym p)) | no g ↦ omega arith ]
+  ]

@@ -1,0 +1,155 @@
+-- Descriptions as data (01, "The description"; FORMAT 2): roles, concept entries, and the query.
+use Prim.Native.Nat.{ℕ, zero, suc}
+use mathlib.Core.Path.{_≡_, refl, sym, _∙_, ap, subst}
+use mathlib.Core.Logic.{_↔_}
+use mathlib.Core.Bool.{Bool, true, false, _&&_, false≢true}
+use mathlib.Core.Option.{Option, none, some, Option·some-injective}
+use lib.Dec.{eqb}
+use Rattle.logic.specs.Tests.{So, so-and, and-l, and-r, so-eqb, eqb-so}
+use Rattle.logic.specs.Sets.{has}
+use Rattle.description.specs.Literals.{Literal, code, literal, literal-code}
+
+-- kinds 0 to 4; "some" and "at most m" are the complements of an "every" and of an "at least m + 1"
+pub data Entry : Type 0 where
+  top name : Entry
+  both : (first second : Literal) → Entry
+  every : (role : ℕ) (qualifier : Literal) → Entry
+  atLeast : (role : ℕ) (qualifier : Literal) (number : ℕ) → Entry
+
+-- only what is numbered below roles, entries and rules is part of a description
+pub record Description : Type 0 where
+  pub roles : ℕ
+  pub transitive : ℕ → Bool
+  -- bit s: included in role s
+  pub parents : ℕ → ℕ
+  pub entries : ℕ
+  pub entry : ℕ → Entry
+  pub root : Literal
+  pub rules : ℕ
+  pub rule : ℕ → Literal
+
+abbrev pub included : Description → ℕ → ℕ → Bool
+included D r s = has (D .parents r) s
+
+-- kinds 2 to 4
+abbrev pub compound : Entry → Bool
+compound top = false
+compound name = false
+compound (both a b) = true
+compound (every r l) = true
+compound (atLeast r l n) = true
+
+abbrev pub isName : Entry → Bool
+isName top = false
+isName name = true
+isName (both a b) = false
+isName (every r l) = false
+isName (atLeast r l n) = false
+
+-- ---- an entry by its five fields
+pub record Fields : Type 0 where
+  pub kind : ℕ
+  pub role : ℕ
+  pub first : ℕ
+  pub second : ℕ
+  pub number : ℕ
+
+abbrev pub fieldsOf : Entry → Fields
+fieldsOf top = record { kind = 0; role = 0; first = 0; second = 0; number = 0 }
+fieldsOf name = record { kind = 1; role = 0; first = 0; second = 0; number = 0 }
+fieldsOf (both a b) = record { kind = 2; role = 0; first = code a; second = code b; number = 0 }
+fieldsOf (every r l) = record { kind = 3; role = r; first = code l; second = 0; number = 0 }
+fieldsOf (atLeast r l n) = record { kind = 4; role = r; first = code l; second = 0; number = n }
+
+entryFrom : ℕ → ℕ → ℕ → ℕ → ℕ → Entry
+entryFrom zero r a b n = top
+entryFrom (suc zero) r a b n = name
+entryFrom (suc (suc zero)) r a b n = both (literal a) (literal b)
+entryFrom (suc (suc (suc zero))) r a b n = every r (literal a)
+entryFrom (suc (suc (suc (suc k)))) r a b n = atLeast r (literal a) n
+
+abbrev entryOfFields : Fields → Entry
+entryOfFields F = entryFrom (F .kind) (F .role) (F .first) (F .second) (F .number)
+
+entry-back : (x : Entry) → entryOfFields (fieldsOf x) ≡ x
+unfolding entryFrom
+entry-back top = refl
+entry-back name = refl
+entry-back (both a b) = rw (literal-code a, literal-code b)
+entry-back (every r l) = rw (literal-code l)
+entry-back (atLeast r l n) = rw (literal-code l)
+
+-- all fields are the same
+unfoldable pub sameEntry : Entry → Entry → Bool
+sameEntry x y = eqb (fieldsOf x .kind) (fieldsOf y .kind) && (eqb (fieldsOf x .role) (fieldsOf y .role)
+    && (eqb (fieldsOf x .first) (fieldsOf y .first) && (eqb (fieldsOf x .second) (fieldsOf y .second) && eqb (fieldsOf x .number) (fieldsOf y .number))))
+
+same-fields : (F G : Fields) → F .kind ≡ G .kind → F .role ≡ G .role → F .first ≡ G .first → F .second ≡ G .second → F .number ≡ G .number
+    → entryOfFields F ≡ entryOfFields G
+same-fields F G k r a b n = rw (k, r, a, b, n)
+
+pub sameEntry↔ : (x y : Entry) → So (sameEntry x y) ↔ (x ≡ y)
+unfolding sameEntry
+sameEntry↔ x y = (
+  λ h. sym (entry-back x) ∙ same-fields (fieldsOf x) (fieldsOf y) (so-eqb _ _ (search (and-l, and-r))) (so-eqb _ _ (search (and-l, and-r)))
+      (so-eqb _ _ (search (and-l, and-r))) (so-eqb _ _ (search (and-l, and-r))) (so-eqb _ _ (search (and-l, and-r))) ∙ entry-back y,
+  λ e. subst (λ z. So (sameEntry x z)) e (search (so-and, eqb-so)),
+)
+
+-- ---- what an entry gives by its kind: in turn for kinds 0 and 1, for "both", for "every", for "at least"
+abbrev pub byKind : {A : Type 0} → A → (Literal → Literal → A) → (ℕ → Literal → A) → (ℕ → Literal → ℕ → A) → Entry → A
+byKind o f g h top = o
+byKind o f g h name = o
+byKind o f g h (both a b) = f a b
+byKind o f g h (every r l) = g r l
+byKind o f g h (atLeast r l n) = h r l n
+
+-- a test of the entries of one kind, which any other entry passes
+unfoldable pub ifBoth : (Literal → Literal → Bool) → Entry → Bool
+ifBoth f = byKind true f (λ _ _. true) (λ _ _ _. true)
+
+unfoldable pub ifEvery : (ℕ → Literal → Bool) → Entry → Bool
+ifEvery f = byKind true (λ _ _. true) f (λ _ _ _. true)
+
+unfoldable pub ifLeast : (ℕ → Literal → ℕ → Bool) → Entry → Bool
+ifLeast f = byKind true (λ _ _. true) (λ _ _. true) f
+
+-- a test that only a "both" can pass
+unfoldable pub isBoth : (Literal → Literal → Bool) → Entry → Bool
+isBoth f = byKind false f (λ _ _. false) (λ _ _ _. false)
+
+pub ifBoth↔ : (f : Literal → Literal → Bool) (x : Entry) → So (ifBoth f x) ↔ ((a b : Literal) → x ≡ both a b → So (f a b))
+unfolding ifBoth
+ifBoth↔ f x = (
+  λ h a b e. subst (λ y. So (ifBoth f y)) e h,
+  elim x [ top ↦ λ h. refl | name ↦ λ h. refl | both a b ↦ λ h. h a b refl | every r l ↦ λ h. refl | atLeast r l n ↦ λ h. refl ],
+)
+
+pub ifEvery↔ : (f : ℕ → Literal → Bool) (x : Entry) → So (ifEvery f x) ↔ ((r : ℕ) (l : Literal) → x ≡ every r l → So (f r l))
+unfolding ifEvery
+ifEvery↔ f x = (
+  λ h r l e. subst (λ y. So (ifEvery f y)) e h,
+  elim x [ top ↦ λ h. refl | name ↦ λ h. refl | both a b ↦ λ h. refl | every r l ↦ λ h. h r l refl | atLeast r l n ↦ λ h. refl ],
+)
+
+pub ifLeast↔ : (f : ℕ → Literal → ℕ → Bool) (x : Entry) → So (ifLeast f x) ↔ ((r : ℕ) (l : Literal) (n : ℕ) → x ≡ atLeast r l n → So (f r l n))
+unfolding ifLeast
+ifLeast↔ f x = (
+  λ h r l n e. subst (λ y. So (ifLeast f y)) e h,
+  elim x [ top ↦ λ h. refl | name ↦ λ h. refl | both a b ↦ λ h. refl | every r l ↦ λ h. refl | atLeast r l n ↦ λ h. h r l n refl ],
+)
+
+pub isBoth↔ : (f : Literal → Literal → Bool) (x : Entry) → So (isBoth f x) ↔ ((a : Literal) × (b : Literal) × (x ≡ both a b) × So (f a b))
+unfolding isBoth
+isBoth↔ f x = (
+  elim x [
+    | top ↦ λ h. absurd (false≢true h)
+    | name ↦ λ h. absurd (false≢true h)
+    | both a b ↦ λ h. (a, b, refl, h)
+    | every r l ↦ λ h. absurd (false≢true h)
+    | atLeast r l n ↦ λ h. absurd (false≢true h)
+  ],
+  λ w. subst (λ y. So (isBoth f y)) (sym (w .2)) (w .3),
+)
+
+pub ruleset kinds = (ifBoth↔, ifEvery↔, ifLeast↔, isBoth↔, sameEntry↔)

@@ -1,0 +1,86 @@
+-- Tests over the numbers below a bound.
+use Prim.Native.Nat.{ℕ, zero, suc, _≤_, _<_}
+use mathlib.Core.Path.{_≡_, refl}
+use mathlib.Core.Logic.{_↔_, _⊎_, inl, inr}
+use mathlib.Core.Bool.{Bool, true, false, cond, not, _&&_, _||_, false≢true}
+use native.Mathlib.Omega.{arith}
+use native.Mathlib.Decide.{decLt}
+use Rattle.logic.specs.Tests.{So, decide, so-and, and-l, and-r, or-l, or-r, or-cases, so-not, so-false, reading}
+
+unfoldable pub allBelow : ℕ → (ℕ → Bool) → Bool
+allBelow zero p = true
+allBelow (suc n) p = allBelow n p && p n
+
+unfoldable pub anyBelow : ℕ → (ℕ → Bool) → Bool
+anyBelow zero p = false
+anyBelow (suc n) p = anyBelow n p || p n
+
+pub below-cases : (i n : ℕ) → i < suc n → (i < n) ⊎ (i ≡ n)
+below-cases i n h = go (decLt i n)
+  where
+    go : Dec (i < n) → (i < n) ⊎ (i ≡ n)
+    go (yes k) = inl k
+    go (no k) = inr (omega arith)
+
+-- what holds at every c below n, and at n, holds at every c below n + 1
+pub up-to {ℓ} : (P : ℕ → Type ℓ) (n : ℕ) → ((c : ℕ) → c < n → P c) → P n → (c : ℕ) → c < suc n → P c
+up-to P n below here c l = elim (below-cases c n l) [ inl k ↦ below c k | inr k ↦ rw k here ]
+
+pub all↔ : (n : ℕ) (p : ℕ → Bool) → So (allBelow n p) ↔ ((i : ℕ) → i < n → So (p i))
+unfolding allBelow
+all↔ zero p = (λ e i h. absurd (omega arith), λ h. refl)
+all↔ (suc n) p = (
+  λ e. up-to (λ i. So (p i)) n (all↔ n p .0 (and-l (allBelow n p) (p n) e)) (and-r (allBelow n p) (p n) e),
+  λ h. so-and (allBelow n p) (p n) (all↔ n p .1 (λ i k. h i (omega arith))) (h n (omega arith)),
+)
+
+pub any↔ : (n : ℕ) (p : ℕ → Bool) → So (anyBelow n p) ↔ ((i : ℕ) × (i < n) × So (p i))
+unfolding anyBelow
+any↔ zero p = (λ e. absurd (false≢true e), λ w. absurd (omega (arith, w .1)))
+any↔ (suc n) p = (
+  λ e. elim (or-cases (anyBelow n p) (p n) e) [
+    | inl k ↦ let r = any↔ n p .0 k in (r .0, omega (arith, r .1), r .2)
+    | inr k ↦ (n, omega arith, k)
+  ],
+  λ w. elim (below-cases (w .0) n (w .1)) [
+    | inl k ↦ or-l (anyBelow n p) (p n) (any↔ n p .1 (w .0, k, w .2))
+    | inr k ↦ or-r (anyBelow n p) (p n) (rw k at (w .2))
+  ],
+)
+
+pub all-elim : (n : ℕ) (p : ℕ → Bool) → So (allBelow n p) → (i : ℕ) → i < n → So (p i)
+all-elim n p = all↔ n p .0
+
+pub all-intro : (n : ℕ) (p : ℕ → Bool) → ((i : ℕ) → i < n → So (p i)) → So (allBelow n p)
+all-intro n p = all↔ n p .1
+
+pub any-elim : (n : ℕ) (p : ℕ → Bool) → So (anyBelow n p) → (i : ℕ) × (i < n) × So (p i)
+any-elim n p = any↔ n p .0
+
+pub any-intro : (n : ℕ) (p : ℕ → Bool) (i : ℕ) → i < n → So (p i) → So (anyBelow n p)
+any-intro n p i h e = any↔ n p .1 (i, h, e)
+
+-- a test that does not pass everywhere fails somewhere
+pub all-not : (n : ℕ) (p : ℕ → Bool) → (So (allBelow n p) → ⊥) → (i : ℕ) × (i < n) × So (not (p i))
+unfolding allBelow
+all-not zero p h = absurd (h refl)
+all-not (suc n) p h = elim (decide (p n)) [
+  | inl u ↦ let r = all-not n p (λ a. h (so-and (allBelow n p) (p n) a u)) in (r .0, omega (arith, r .1), r .2)
+  | inr u ↦ (n, omega arith, so-not _ u)
+]
+
+-- the last number below n that passes, or 0
+unfoldable pub find : ℕ → (ℕ → Bool) → ℕ
+find zero p = 0
+find (suc n) p = cond (p n) n (find n p)
+
+pub find-ok : (n : ℕ) (p : ℕ → Bool) → So (anyBelow n p) → (find n p < n) × So (p (find n p))
+unfolding find anyBelow
+find-ok zero p e = absurd (false≢true e)
+find-ok (suc n) p e = elim (decide (p n)) [
+  | inl u ↦ rw u (omega arith, u)
+  | inr u ↦ rw (so-false _ u)
+      (let r = find-ok n p (elim (or-cases (anyBelow n p) (p n) e) [ inl v ↦ v | inr v ↦ absurd (u v) ]) in (omega (arith, r .0), r .1))
+]
+
+pub ruleset below = (reading, all↔, any↔)
