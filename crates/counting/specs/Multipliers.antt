@@ -1,16 +1,17 @@
 -- Combinations of limits by multipliers, and the leaf that two of them close.
-use Prim.Native.Nat.{ℕ, zero, suc, _+_, _*_, _≤_, _<_}
+use Prim.Native.Nat.{ℕ, zero, suc, _+_, _*_, _<_}
 use mathlib.Core.Path.{_≡_, refl, sym, _∙_, ap, subst}
 use mathlib.Core.Logic.{_⊎_, inl, inr}
 use mathlib.Core.Bool.{Bool, true, false, _&&_}
-use mathlib.Core.List.{List, [], _∷_, _++_, List·Memᴰ·head, List·Memᴰ·tail}
+use mathlib.Core.List.{List, [], _∷_, List·Memᴰ·head, List·Memᴰ·tail}
 use native.Mathlib.Omega.{arith}
 use lib.Dec.{eqb}
 use lib.ListN.{length}
-use Rattle.logic.specs.Tests.{So, decide, so-and, and-l, and-r, so-false, so-eqb, eqb-so}
+use Rattle.logic.specs.Tests.{So, decide, and-l, and-r, so-false, so-eqb, eqb-so}
 use Rattle.logic.specs.Lists.{_∈_}
-use Rattle.logic.specs.Sums.{sumBelow, only, only-on, only-off, only-zero, only-add, sum-one}
-use Rattle.counting.specs.Trees.{Side, lower, upper, sameSide, Meets, Limit, limit, Tree, leaf, share, price, weight, worth, live, total, LeafCloses, TreeCloses, formed}
+use Rattle.logic.specs.Sums.{sumBelow, only, only-off, only-zero, only-add, sum-one}
+use Rattle.counting.specs.Trees.{Side, lower, upper, sameSide, Meets, Limit, limit, share, price, weight, worth}
+use Rattle.counting.specs.Trees.{Tree, leaf, live, total, TreeCloses, formed}
 use Rattle.counting.specs.TreeLaws.{gap↔, meets-refl, meets-add}
 
 -- ---- lists of multipliers
@@ -64,11 +65,6 @@ worth-tally s (l ∷ ls) [] = refl
 worth-tally s (l ∷ ls) (m ∷ ms) = ap (price s l m +_) (worth-tally s ls ms)
 
 module _ (f : Limit → ℕ → ℕ) (f-add : (l : Limit) (m k : ℕ) → f l (m + k) ≡ f l m + f l k) where
-  tally-nil : (ls : List Limit) → tally f ls [] ≡ 0
-  unfolding tally
-  tally-nil [] = refl
-  tally-nil (l ∷ ls) = refl
-
   tally-plus : (ls : List Limit) (ms ks : List ℕ) → tally f ls (plus ms ks) ≡ tally f ls ms + tally f ls ks
   unfolding tally plus
   tally-plus [] ms ks = refl
@@ -90,19 +86,12 @@ share-add : (s : Side) (c : ℕ) (l : Limit) (m k : ℕ) → share s l (m + k) c
 share-add s c (limit r b p) m k = only-add (sameSide s r && p c) m k
 
 price-add : (s : Side) (l : Limit) (m k : ℕ) → price s l (m + k) ≡ price s l m + price s l k
-price-add s (limit r b p) m k = ap (only (sameSide s r)) (let z : (m + k) * b ≡ m * b + k * b = omega arith in z) ∙ only-add (sameSide s r) (m * b) (k * b)
+price-add s (limit r b p) m k = let e : (m + k) * b ≡ m * b + k * b = omega arith in rw e (only-add (sameSide s r) (m * b) (k * b))
 
--- ---- combinations
-abbrev other : Side → Side
+-- ---- sides
+abbrev pub other : Side → Side
 other lower = upper
 other upper = lower
-
-meets-trans : (s : Side) (a b c : ℕ) → Meets s a b → Meets s b c → Meets s a c
-meets-trans lower a b c h k = omega arith
-meets-trans upper a b c h k = omega arith
-
-abbrev Closing : (n : ℕ) (open? : ℕ → Bool) → List Limit → Type 0
-Closing n open? ls = (t : Tree) × So (formed (length ls) t) × TreeCloses n open? ls t
 
 own-side : (s : Side) → sameSide s s ≡ true
 own-side lower = refl
@@ -112,12 +101,25 @@ no-side : (s : Side) → sameSide (other s) s ≡ false
 no-side lower = refl
 no-side upper = refl
 
+meets-trans : (s : Side) (a b c : ℕ) → Meets s a b → Meets s b c → Meets s a c
+meets-trans lower a b c h k = omega arith
+meets-trans upper a b c h k = omega arith
+
+-- ---- combinations
+abbrev pub ClosingTree : (n : ℕ) (open? : ℕ → Bool) → List Limit → Type 0
+ClosingTree n open? ls = (t : Tree) × So (formed (length ls) t) × TreeCloses n open? ls t
+
+-- the limits ls say of the cell c that its size is at least v, or at most v
+abbrev pub Pin : Side → List Limit → ℕ → ℕ → Type 0
+Pin lower ls v c = (v ≡ 0) ⊎ (limit lower v (eqb c) ∈ ls)
+Pin upper ls v c = limit upper v (eqb c) ∈ ls
+
 module _ (n : ℕ) (open? : ℕ → Bool) (ls : List Limit) where
   abbrev weights : Side → List ℕ → ℕ → ℕ
   weights s ms c = tally (λ l m. share s l m c) ls ms
 
-  -- Multipliers of limits of the side s alone, that give each open cell c the weight w c (at most that on the lower side, at least that
-  -- on the upper one) and the worth b: they show that the sizes times the weights w total at least b, or at most b.
+  -- Multipliers for limits of the side s alone. An open cell c has the weight w c, or less on the lower side, more on the upper one;
+  -- the worth is b. So any sizes, each times its weight in w, total at least b, or at most b.
   record Combination (s : Side) (w : ℕ → ℕ) (b : ℕ) : Type 0 where
     ms : List ℕ
     long : length ms ≡ length ls
@@ -157,7 +159,8 @@ module _ (n : ℕ) (open? : ℕ → Bool) (ls : List Limit) where
   }
 
   -- other weights that are as good in the open cells
-  weaker : (s : Side) (v w : ℕ → ℕ) (b : ℕ) → ((c : ℕ) → c < n → So (live n open? c) → Meets (other s) (v c) (w c)) → Combination s w b → Combination s v b
+  weaker : (s : Side) (v w : ℕ → ℕ) (b : ℕ) → ((c : ℕ) → c < n → So (live n open? c) → Meets (other s) (v c) (w c))
+      → Combination s w b → Combination s v b
   weaker s v w b h p = record {
     ms = p .ms;
     long = p .long;
@@ -174,7 +177,7 @@ module _ (n : ℕ) (open? : ℕ → Bool) (ls : List Limit) where
   many s w b (suc j) h = both s _ _ _ _ (many s w b j (λ i l. h i (omega arith))) (h j (omega arith))
 
   -- the same weights with a lower bound above the upper one: a leaf closes
-  clash : (w : ℕ → ℕ) (a b : ℕ) → Combination lower w a → Combination upper w b → b < a → Closing n open? ls
+  clash : (w : ℕ → ℕ) (a b : ℕ) → Combination lower w a → Combination upper w b → b < a → ClosingTree n open? ls
   unfolding formed
   clash w a b p q h = (
     leaf ms,
@@ -201,3 +204,30 @@ module _ (n : ℕ) (open? : ℕ → Bool) (ls : List Limit) where
     where
       ms : List ℕ
       ms = plus (p .ms) (q .ms)
+
+  -- ---- pinned cells
+  pin : (s : Side) (v c : ℕ) → Pin s ls v c → Combination s (λ d. only (eqb c d) 1) v
+  pin lower v c (inl z) = rw z (weaker lower _ (λ _. 0) 0 (λ d _ _. omega arith) (none lower))
+  pin lower v c (inr p) = one lower v (eqb c) p
+  pin upper v c p = one upper v (eqb c) p
+
+  -- the pins of the open cells that k counts
+  pins : (s : Side) (k : ℕ → Bool) (x : ℕ → ℕ) → ((c : ℕ) → c < n → So (live n open? c) → So (k c) → Pin s ls (x c) c)
+      → Combination s (λ c. only (k c) 1) (total n open? x k)
+  pins s k x h = weaker s _ _ _ (λ c l o. subst (Meets (other s) (only (k c) 1)) (sym (once c l o)) (meets-refl (other s) (only (k c) 1)))
+      (many s (λ i c. only (live n open? i && k i) (only (eqb i c) 1)) (λ i. only (live n open? i && k i) (x i)) n each)
+    where
+      each : (i : ℕ) → i < n → Combination s (λ c. only (live n open? i && k i) (only (eqb i c) 1)) (only (live n open? i && k i) (x i))
+      each i l = elim (decide (live n open? i && k i)) [
+        | inl u ↦ rw u (pin s (x i) i (h i l (and-l (live n open? i) (k i) u) (and-r (live n open? i) (k i) u)))
+        | inr u ↦ rw (so-false _ u) (none s)
+      ]
+
+      once : (c : ℕ) → c < n → So (live n open? c) → sumBelow n (λ i. only (live n open? i && k i) (only (eqb i c) 1)) ≡ only (k c) 1
+      once c l o = sum-one n _ c l (λ i _ ne. rw (only-off (eqb i c) 1 (λ t. ne (so-eqb i c t))) (only-zero (live n open? i && k i))) ∙ rw (eqb-so c, o)
+
+  -- a limit that the sizes x break, against the pins of its cells
+  pub broken-closes : (s : Side) (b : ℕ) (k : ℕ → Bool) (x : ℕ → ℕ) → limit s b k ∈ ls → (Meets s b (total n open? x k) → ⊥)
+      → ((c : ℕ) → c < n → So (live n open? c) → So (k c) → Pin (other s) ls (x c) c) → ClosingTree n open? ls
+  broken-closes lower b k x p h q = clash _ _ _ (one lower b k p) (pins upper k x q) (omega arith)
+  broken-closes upper b k x p h q = clash _ _ _ (pins lower k x q) (one upper b k p) (omega arith)

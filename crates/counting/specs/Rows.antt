@@ -6,7 +6,7 @@ use lib.ListN.{length, getD}
 use Rattle.logic.specs.Tests.{So}
 use Rattle.logic.specs.Sums.{countBelow}
 use Rattle.logic.specs.Sets.{has, setOf}
-use Rattle.counting.specs.Trees.{Side, lower, upper, Meets, Limit, limit, Tree, total, TreeCloses}
+use Rattle.counting.specs.Trees.{Side, lower, upper, Meets, Limit, limit, Tree, total, TreeCloses, treeTest}
 
 -- a row's side and bound: all that the arithmetic knows of it
 pub record Bound : Type 0 where
@@ -42,6 +42,10 @@ limits rows = limitsFrom 0 rows
 -- a tree that closes the rows over the open cells
 abbrev pub Closed : List Bound → (ℕ → Bool) → Tree → Type 0
 Closed rows open? t = TreeCloses (2 ^ length rows) open? (limits rows) t
+
+-- the same as a test, with a limit on the values of splits
+abbrev pub closedTest : List Bound → (ℕ → Bool) → (ℕ → Bool) → Tree → Bool
+closedTest rows open? fits t = treeTest (2 ^ length rows) open? fits (limits rows) t
 
 -- the lower bounds, added up
 unfoldable pub lowers : List Bound → ℕ

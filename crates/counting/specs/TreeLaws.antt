@@ -1,8 +1,8 @@
 -- Laws of trees: the tests are the statements, a tree that closes leaves no sizes, and only the open cells below n matter.
-use Prim.Native.Nat.{ℕ, zero, suc, _+_, _-_, _*_, _≤_, _<_}
-use mathlib.Core.Path.{_≡_, refl, sym, _∙_, ap, subst}
-use mathlib.Core.Logic.{_↔_, Iff·rfl, _⊎_, inl, inr}
-use mathlib.Core.Bool.{Bool, true, false, cond, _&&_, false≢true}
+use Prim.Native.Nat.{ℕ, _+_, _-_, _*_, _≤_, _<_}
+use mathlib.Core.Path.{_≡_, refl, sym, _∙_, subst}
+use mathlib.Core.Logic.{_↔_, Iff·rfl, inl, inr}
+use mathlib.Core.Bool.{Bool, true, false, _&&_, false≢true}
 use mathlib.Core.List.{List, [], _∷_, _++_}
 use native.Mathlib.Omega.{arith}
 use native.Mathlib.Decide.{decLe}
@@ -10,12 +10,18 @@ use native.Mathlib.Nat.{mul-le-mul-left}
 use lib.Dec.{eqb, ltb}
 use lib.IntN.{pos, subℕ}
 use lib.Signed.{ltZ}
-use Rattle.logic.specs.Tests.{So, decide, so-and, and-l, and-r, so-false, and↔, so-ltb, ltb-so, so-eqb, eqb-so}
+use Rattle.logic.specs.Tests.{So, decide, so-and, and-r, so-false, so-ltb, ltb-so, so-eqb, eqb-so, and↔, reading}
 use Rattle.logic.specs.Bounded.{below}
 use Rattle.logic.specs.Sums.{sumBelow, only, only-on, only-off, sum-cong, sum-le, sum-zero, sum-add, sum-mul, sum-one}
-use Rattle.counting.specs.Trees.{Side, lower, upper, sameSide, Meets, Limit, limit, atMost, moreThan, Tree, leaf, split, share, price, weight, worth, gap, live, total, Holds, HoldAll, LeafCloses, TreeCloses, leafTest, treeTest, ValuesFit}
+use Rattle.counting.specs.Trees.{Side, lower, upper, sameSide, Meets, Limit, limit, atMost, moreThan, share, price, weight, worth, gap}
+use Rattle.counting.specs.Trees.{Tree, leaf, split, live, total, Holds, HoldAll, LeafCloses, TreeCloses, leafTest, treeTest, ValuesFit}
 
--- ---- the gap
+-- every value is within no limit
+pub fits-all : (t : Tree) → ValuesFit (λ _. true) t
+fits-all (leaf ms) = tt
+fits-all (split c v l r) = (refl, fits-all l, fits-all r)
+
+-- ---- the gap is above zero
 pub gap↔ : (ls : List Limit) (ms : List ℕ) → So (ltZ (pos 0) (gap ls ms)) ↔ (worth upper ls ms < worth lower ls ms)
 gap↔ ls ms = above (worth lower ls ms) (worth upper ls ms)
   where
@@ -25,7 +31,7 @@ gap↔ ls ms = above (worth lower ls ms) (worth upper ls ms)
       | inr u ↦ rw (so-false _ u) (λ h. omega (arith, so-ltb 0 (a - b) h), λ h. ltb-so 0 (a - b) (omega arith))
     ]
 
--- ---- one side at a time
+-- ---- bounds on one side, added up
 pub meets-refl : (s : Side) (b : ℕ) → Meets s b b
 meets-refl lower b = omega arith
 meets-refl upper b = omega arith
@@ -34,12 +40,11 @@ pub meets-add : (s : Side) (a b c d : ℕ) → Meets s a b → Meets s c d → M
 meets-add lower a b c d h k = omega arith
 meets-add upper a b c d h k = omega arith
 
-pub fits-all : (t : Tree) → ValuesFit (λ _. true) t
-fits-all (leaf ms) = tt
-fits-all (split c v l r) = (refl, fits-all l, fits-all r)
-
 module _ (n : ℕ) (open? : ℕ → Bool) where
   -- ---- the tests are the statements
+  pub live↔ : (c : ℕ) → So (live n open? c) ↔ ((0 < c) × So (open? c))
+  live↔ c = simp reading Iff·rfl
+
   pub leaf↔ : (ls : List Limit) (ms : List ℕ) → So (leafTest n open? ls ms) ↔ LeafCloses n open? ls ms
   unfolding leafTest
   leaf↔ ls ms = (λ h. let e = both .0 h in record { balanced = e .0; gains = e .1 }, λ h. both .1 (h .balanced, h .gains))
@@ -51,13 +56,11 @@ module _ (n : ℕ) (open? : ℕ → Bool) where
   pub tree↔ : (fits : ℕ → Bool) (ls : List Limit) (t : Tree) → So (treeTest n open? fits ls t) ↔ (TreeCloses n open? ls t × ValuesFit fits t)
   unfolding treeTest
   tree↔ fits ls (leaf ms) = (λ h. (leaf↔ ls ms .0 h, tt), λ h. leaf↔ ls ms .1 (h .0))
-  tree↔ fits ls (split c v l r) =
-      let p = tree↔ fits (ls ++ (atMost c v ∷ [])) l in
-      let q = tree↔ fits (ls ++ (moreThan c v ∷ [])) r in
-      let e = parts (ltb c n) (live n open? c) (fits v) (treeTest n open? fits (ls ++ (atMost c v ∷ [])) l) (treeTest n open? fits (ls ++ (moreThan c v ∷ [])) r) in
-      (
+  tree↔ fits ls (split c v l r) = let low = ls ++ (atMost c v ∷ []) in let high = ls ++ (moreThan c v ∷ []) in
+      let p = tree↔ fits low l in let q = tree↔ fits high r in
+      let e = parts (ltb c n) (live n open? c) (fits v) (treeTest n open? fits low l) (treeTest n open? fits high r) in (
         λ h. let g = e .0 h in let a = p .0 (g .1 .0) in let b = q .0 (g .1 .1) in
-          ((so-ltb c n (g .0 .0), g .0 .1 .0, a .0, b .0), (g .0 .1 .1, a .1, b .1)),
+            ((so-ltb c n (g .0 .0), g .0 .1 .0, a .0, b .0), (g .0 .1 .1, a .1, b .1)),
         λ h. e .1 ((ltb-so c n (h .0 .0), (h .0 .1, h .1 .0)), (p .1 (h .0 .2, h .1 .1), q .1 (h .0 .3, h .1 .2))),
       )
     where
@@ -101,7 +104,7 @@ module _ (n : ℕ) (open? : ℕ → Bool) where
   weighed-all s (l ∷ ls) (m ∷ ms) x h = subst (Meets s _) (sym (weighed-add x (share s l m) (weight s ls ms)))
       (meets-add s _ _ _ _ (weighed-limit s l m x (h .0)) (weighed-all s ls ms x (h .1)))
 
-  -- a leaf that closes: by the limits the lower worth is above the upper one, by the cells it is not
+  -- by its gap a leaf's lower worth is above its upper worth; by its balance the weighed sizes lie between them the other way
   leaf-sound : (ls : List Limit) (ms : List ℕ) → LeafCloses n open? ls ms → (x : ℕ → ℕ) → HoldAll n open? ls x → ⊥
   leaf-sound ls ms h x k = omega (
     arith,
@@ -115,7 +118,7 @@ module _ (n : ℕ) (open? : ℕ → Bool) where
       point true a p q t = mul-le-mul-left a (t refl)
       point false a p q t = omega arith
 
-  -- the total of one open cell is its size: what a split says
+  -- a split bounds one size: the total of one open cell is its size
   total-one : (x : ℕ → ℕ) (c : ℕ) → c < n → So (live n open? c) → total n open? x (eqb c) ≡ x c
   total-one x c l o = sum-one n _ c l (λ d _ ne. only-off (live n open? d && eqb c d) (x d) (λ t. ne (sym (so-eqb c d (and-r (live n open? d) _ t)))))
       ∙ only-on (live n open? c && eqb c c) (x c) (so-and (live n open? c) _ o (eqb-so c))

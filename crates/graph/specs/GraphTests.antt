@@ -1,5 +1,5 @@
 -- Rules 10 to 15 of graphs as tests, in the table's order, and that they say what the rules say.
-use Prim.Native.Nat.{ℕ, zero, suc, _*_, _≤_, _<_}
+use Prim.Native.Nat.{ℕ, _*_, _≤_}
 use mathlib.Core.Path.{_≡_, refl}
 use mathlib.Core.Logic.{_↔_, Iff·rfl}
 use mathlib.Core.Bool.{Bool, true, not, _&&_, _||_}
@@ -16,11 +16,16 @@ use Rattle.logic.specs.Refusals.{Refusal, unless, unless↔, refuseFrom, record
 use Rattle.description.specs.Literals.{Literal, pos, neg, opposite, Label, members, in-table↔}
 use Rattle.description.specs.Descriptions.{every, Description, ifBoth, ifEvery, ifLeast, sameEntry, kinds}
 use Rattle.description.specs.Roles.{ancestor}
-use Rattle.graph.specs.Graphs.{Edge, Node, Graph, nodeAt, labelAt, edgesAt, ofRole, LabelOk, BothOk, EdgeOk, Passes, EveryOk, counted, CountOk, NodeOk, wantedAt, Keeps, GraphLimits, GraphFits}
+use Rattle.graph.specs.Graphs.{Edge, Graph, nodeAt, labelAt, edgesAt, ofRole, counted, wantedAt, GraphLimits, GraphFits}
+use Rattle.graph.specs.Graphs.{LabelOk, BothOk, EdgeOk, EveryOk, CountOk, NodeOk, Keeps}
 
 -- no limits: lifted graphs
 abbrev pub anyGraph : GraphLimits
 anyGraph = record { edges = λ n. true; count = λ n. true }
+
+-- the limits of stored evidence: 32 edges a record, 1,000 for a count
+abbrev pub storedGraph : GraphLimits
+storedGraph = record { edges = λ n. leb n 32; count = λ n. leb n 1000 }
 
 unfoldable pub labelTest : Description → List Literal → ℕ → Bool
 labelTest D W N = narrow N (2 * D .entries)
@@ -102,13 +107,16 @@ pub node↔ : (lim : GraphLimits) (D : Description) (size : ℕ) (lab : ℕ → 
     → (nodeRefusal lim D size lab W N es ≡ none) ↔ (NodeOk D size lab W (members N) es × ((E : Edge) → E ∈ es → So (lim .count (E .count))))
 unfolding nodeRefusal
 node↔ lim D size lab W N es = simp (unless↔, label↔, both↔, each↔, edge↔, every↔, count↔) (
-  λ t. (record {
-    label-ok = t .0;
-    both-ok = t .1 .0;
-    edges-ok = λ E m. t .1 .1 .0 E m .0;
-    every-ok = t .1 .1 .1 .0;
-    count-ok = t .1 .1 .1 .1 .0;
-  }, λ E m. t .1 .1 .0 E m .1),
+  λ t. (
+    record {
+      label-ok = t .0;
+      both-ok = t .1 .0;
+      edges-ok = λ E m. t .1 .1 .0 E m .0;
+      every-ok = t .1 .1 .1 .0;
+      count-ok = t .1 .1 .1 .1 .0;
+    },
+    λ E m. t .1 .1 .0 E m .1,
+  ),
   λ o. (o .0 .label-ok, (o .0 .both-ok, (λ E m. (o .0 .edges-ok E m, o .1 E m), (o .0 .every-ok, (o .0 .count-ok, refl))))),
 )
 

@@ -1,5 +1,5 @@
 -- The interpretation that a graph stands for (01, "The written line"; FORMAT 7): K copies of each node.
-use Prim.Native.Nat.{ℕ, zero, suc, _-_, _*_, _/_, _%_, max}
+use Prim.Native.Nat.{ℕ, _-_, _*_, _/_, _%_, max}
 use mathlib.Core.Bool.{Bool, false, cond, _&&_, _||_}
 use mathlib.Core.List.{List, [], _∷_}
 use lib.Dec.{eqb, ltb}

@@ -6,9 +6,9 @@ use mathlib.Core.Bool.{Bool, true, false, cond, _||_}
 use native.Mathlib.Omega.{arith}
 use native.Mathlib.Decide.{decLe}
 use lib.Dec.{eqb, ltb}
-use Rattle.logic.specs.Tests.{So, so-eqb, eqb-so, so-false, or-l, or-r, or-cases, eqb↔}
-use Rattle.logic.specs.Sets.{has, narrow, with, setOf}
-use Rattle.logic.specs.SetLaws.{narrow↔, with↔, setOf↔}
+use Rattle.logic.specs.Tests.{So, so-eqb, eqb-so, so-false, or-l, or-r, or-cases, same-test, eqb↔}
+use Rattle.logic.specs.Sets.{has, narrow, within, with, setOf}
+use Rattle.logic.specs.SetLaws.{no-member, narrow↔, within↔, with↔, setOf↔}
 
 -- entry e, or its complement
 pub data Literal : Type 0 where
@@ -40,6 +40,10 @@ Label = Literal → Bool
 -- the set that a number stands for: bit l is literal l
 unfoldable pub members : ℕ → Label
 members n l = has n (code l)
+
+-- the label N with the literal l put in, as a number
+unfoldable pub adding : ℕ → Literal → ℕ
+adding N l = with N (code l)
 
 -- L with l put in
 abbrev pub plus : Label → Literal → Label
@@ -107,12 +111,22 @@ in-table↔ N n = (
   λ h. narrow↔ N (2 * n) .1 (λ i u. rw (code-literal i) at (code-entry (literal i) n .1 (h (literal i) (rw (code-literal i) u)))),
 )
 
-pub members-with : (N : ℕ) (l m : Literal) → So (members (with N (code l)) m) ↔ So (plus (members N) l m)
+pub within-members↔ : (M N : ℕ) → So (within M N) ↔ Within (members M) (members N)
 unfolding members
-members-with N l m = (
-  λ h. plus↔ (λ m. has N (code m)) l m .1 (elim (with↔ N (code l) (code m) .0 h) [ inl u ↦ inl u | inr e ↦ inr (code-injective l m (sym e)) ]),
-  λ h. with↔ N (code l) (code m) .1 (elim (plus↔ (λ m. has N (code m)) l m .0 h) [ inl u ↦ inl u | inr e ↦ inr (ap code (sym e)) ]),
+within-members↔ M N = (
+  λ h l u. within↔ M N .0 h (code l) u,
+  λ h. within↔ M N .1 (λ i u. rw (code-literal i) at (h (literal i) (rw (code-literal i) u))),
 )
+
+pub no-literal : (l : Literal) → So (members 0 l) → ⊥
+unfolding members
+no-literal l h = no-member (code l) h
+
+pub members-adding : (N : ℕ) (l m : Literal) → members (adding N l) m ≡ plus (members N) l m
+unfolding members adding
+members-adding N l m = same-test _ _
+    (λ h. plus↔ (λ m. has N (code m)) l m .1 (elim (with↔ N (code l) (code m) .0 h) [ inl u ↦ inl u | inr e ↦ inr (code-injective l m (sym e)) ]))
+    (λ h. with↔ N (code l) (code m) .1 (elim (plus↔ (λ m. has N (code m)) l m .0 h) [ inl u ↦ inl u | inr e ↦ inr (ap code (sym e)) ]))
 
 -- the number of a set of literals of n entries
 unfoldable pub labelOf : ℕ → Label → ℕ

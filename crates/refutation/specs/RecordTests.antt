@@ -1,0 +1,229 @@
+-- Rules 10 and 16 to 20 of refutations as tests, in the table's order, and that they say what the rules say.
+use Prim.Native.Nat.{ℕ, zero, suc, _*_, _-_, _^_, _≤_, _<_}
+use mathlib.Core.Path.{_≡_, refl, sym, _∙_, subst}
+use mathlib.Core.Logic.{_↔_, _⊎_, inl, inr, Iff·rfl}
+use mathlib.Core.Bool.{Bool, true, false, _&&_, _||_, false≢true}
+use mathlib.Core.List.{List, [], _∷_, List·Memᴰ·head, List·Memᴰ·tail, List·Memᴰ·cases-cons}
+use mathlib.Core.Option.{Option, none, some}
+use lib.Dec.{eqb, leb, ltb}
+use lib.ListN.{length}
+use Rattle.logic.specs.Tests.{So, _⇒_, and↔, reading}
+use Rattle.logic.specs.Bounded.{allBelow}
+use Rattle.logic.specs.Lists.{_∈_, each, each↔, listed}
+use Rattle.logic.specs.Sets.{narrow, within}
+use Rattle.logic.specs.Refusals.{Refusal, unless, unless↔, refuse, refuse↔, refuseFrom, records↔}
+use Rattle.counting.specs.Trees.{Tree, formed, depth, ValuesFit, treeTest}
+use Rattle.counting.specs.TreeLaws.{tree↔, fits-all}
+use Rattle.counting.specs.Rows.{limits, Closed, closedTest}
+use Rattle.description.specs.Literals.{Literal, pos, neg, opposite, code, entryOf, Label, members, adding, plus, Within, in-table↔, within-members↔, members-adding, no-literal, plus↔, labelOf, members-labelOf}
+use Rattle.description.specs.Descriptions.{Description, isBoth, isBoth↔}
+use Rattle.description.specs.Acceptance.{Accepted}
+use Rattle.refutation.specs.Cells.{Row, rowOf, isRow, rowsOf, bounds, Known, known, known↔, rows-in, known-in}
+use Rattle.refutation.specs.Records.{Cell, unshown, cited, Counting, Step, contradiction, conjunction, disjunction, byRule, caseSplit, counting, asCounting, WhenCounting, Record, Refutation, recordAt, labelAt, cellAt, openAt, literalAt, FormOk, FormFits, Formed, Named, Applies, inLabel, Shows, Ends, RecordOk, EndOk, Closes, RefutationLimits, StepFits, RefutationFits}
+
+-- no limits: lifted refutations
+abbrev pub anyRefutation : RefutationLimits
+anyRefutation = record { rows = λ n. true; depth = λ n. true; value = λ n. true }
+
+-- the limits of stored ones: 6 rows, depth 8, split values up to 1,000
+abbrev pub storedRefutation : RefutationLimits
+storedRefutation = record { rows = λ n. leb n 6; depth = λ n. leb n 8; value = λ n. leb n 1000 }
+
+-- a test of the counting steps, which any other step passes
+unfoldable pub whenCounting : (Counting → Bool) → Option Counting → Bool
+whenCounting p none = true
+whenCounting p (some K) = p K
+
+-- a test of the record that a cell cites, which an open cell passes
+unfoldable pub ifCited : (ℕ → Bool) → Cell → Bool
+ifCited p unshown = true
+ifCited p (cited j) = p j
+
+-- 10
+abbrev pub formTest : RefutationLimits → Counting → Bool
+formTest lim K = (leb 1 (length (K .rows)) && (eqb (suc (length (K .cells))) (2 ^ length (K .rows)) && formed (length (K .rows)) (K .tree)))
+    && (lim .rows (length (K .rows)) && lim .depth (depth (K .tree)))
+
+module _ (D : Description) (num : ℕ → ℕ) (i N : ℕ) where
+  -- 16
+  unfoldable pub namedTest : Step → Bool
+  namedTest (contradiction l) = ltb (entryOf l) (D .entries)
+  namedTest (conjunction e c) = ltb e (D .entries) && ltb c i
+  namedTest (disjunction e c d) = ltb e (D .entries) && (ltb c i && ltb d i)
+  namedTest (byRule q c) = ltb q (D .rules) && ltb c i
+  namedTest (caseSplit e c d) = ltb e (D .entries) && (ltb c i && ltb d i)
+  namedTest (counting K) = each (K .rows) (λ l. ltb (entryOf l) (D .entries))
+      && allBelow (2 ^ length (K .rows)) (λ c. ltb 0 c ⇒ ifCited (λ j. ltb j i) (cellAt (K .cells) c))
+
+  -- 17
+  unfoldable pub appliesTest : Step → Bool
+  appliesTest (contradiction l) = inLabel D num i N l && inLabel D num i N (opposite l)
+  appliesTest (conjunction e c) = members N (pos e) && isBoth (λ a b. within (num c) (adding (adding N a) b)) (D .entry e)
+  appliesTest (disjunction e c d) = members N (neg e)
+      && isBoth (λ a b. within (num c) (adding N (opposite a)) && within (num d) (adding N (opposite b))) (D .entry e)
+  appliesTest (byRule q c) = within (num c) (adding N (D .rule q))
+  appliesTest (caseSplit e c d) = within (num c) (adding N (pos e)) && within (num d) (adding N (neg e))
+  appliesTest (counting K) = each (K .rows) (λ l. members N l && isRow (rowOf D l))
+      && allBelow (length (K .rows)) (λ j. ltb (suc j) (length (K .rows)) ⇒ ltb (code (literalAt (K .rows) j)) (code (literalAt (K .rows) (suc j))))
+
+  -- the known label of cell c as a number: what one cell shows
+  abbrev pub knownLabel : List Literal → ℕ → ℕ
+  knownLabel lits c = labelOf (D .entries) (known D (members N) (rowsOf D lits) c)
+
+  -- 18
+  abbrev pub showsTest : Step → Bool
+  showsTest s = whenCounting (λ K. allBelow (2 ^ length (K .rows)) (λ c.
+      ltb 0 c ⇒ ifCited (λ j. within (num j) (knownLabel (K .rows) c)) (cellAt (K .cells) c))) (asCounting s)
+
+  -- 19
+  abbrev pub endsTest : (ℕ → Bool) → Step → Bool
+  endsTest fits s = whenCounting (λ K. closedTest (bounds (rowsOf D (K .rows))) (openAt (K .cells)) fits (K .tree)) (asCounting s)
+
+  -- the smallest of 16 to 19 that refuses the record i with label number N
+  unfoldable pub recordRefusal : (ℕ → Bool) → Step → Option ℕ
+  recordRefusal fits s =
+      unless (narrow N (2 * D .entries) && namedTest s) 16
+      (unless (appliesTest s) 17
+      (unless (showsTest s) 18
+      (unless (endsTest fits s) 19 none)))
+
+-- the set of literal 0 and what is wanted
+unfoldable pub endLabel : List Literal → ℕ
+endLabel [] = adding 0 (pos 0)
+endLabel (l ∷ W) = adding (endLabel W) l
+
+-- 10 over all records, rising; then the records rising, smallest number within one; then 20, of the last
+unfoldable pub refutationRefusal : RefutationLimits → Description → List Literal → Refutation → Option Refusal
+refutationRefusal lim D W C =
+    refuseFrom (λ i. unless (whenCounting (formTest lim) (asCounting (recordAt C i .step))) 10 none) (length C) 0
+    (refuseFrom (λ i. recordRefusal D (labelAt C) i (labelAt C i) (lim .value) (recordAt C i .step)) (length C) 0
+    (refuse (length C - 1) (unless (within (labelAt C (length C - 1)) (endLabel W)) 20 none) none))
+
+-- ---- the tests say what the rules say
+pub ifCited↔ : (p : ℕ → Bool) (x : Cell) → So (ifCited p x) ↔ ((j : ℕ) → x ≡ cited j → So (p j))
+unfolding ifCited
+ifCited↔ p x = (λ h j e. subst (λ y. So (ifCited p y)) e h, elim x [ unshown ↦ λ h. refl | cited j ↦ λ h. h j refl ])
+
+-- a test of the counting steps tests what it tests of one
+pub whenCounting↔ : (p : Counting → Bool) (P : Counting → Type 0) → ((K : Counting) → So (p K) ↔ P K) → (o : Option Counting)
+    → So (whenCounting p o) ↔ WhenCounting P o
+unfolding whenCounting
+whenCounting↔ p P e none = (λ h. tt, λ h. refl)
+whenCounting↔ p P e (some K) = e K
+
+when-both : (P Q : Counting → Type 0) (o : Option Counting) → WhenCounting (λ K. P K × Q K) o ↔ (WhenCounting P o × WhenCounting Q o)
+when-both P Q none = (λ h. (tt, tt), λ h. tt)
+when-both P Q (some K) = (λ h. h, λ h. h)
+
+module _ (D : Description) (num : ℕ → ℕ) (i N : ℕ) where
+  pub named↔ : (s : Step) → So (namedTest D num i N s) ↔ Named D num i N s
+  unfolding namedTest
+  named↔ (contradiction l) = simp listed Iff·rfl
+  named↔ (conjunction e c) = simp listed Iff·rfl
+  named↔ (disjunction e c d) = simp listed Iff·rfl
+  named↔ (byRule q c) = simp listed Iff·rfl
+  named↔ (caseSplit e c d) = simp listed Iff·rfl
+  named↔ (counting K) = simp (listed, ifCited↔) Iff·rfl
+
+  pub applies↔ : (s : Step) → So (appliesTest D num i N s) ↔ Applies D num i N s
+  unfolding appliesTest
+  applies↔ (contradiction l) = and↔ _ _
+  applies↔ (conjunction e c) = simp (and↔, isBoth↔, within-members↔, members-adding) Iff·rfl
+  applies↔ (disjunction e c d) = simp (and↔, isBoth↔, within-members↔, members-adding) Iff·rfl
+  applies↔ (byRule q c) = simp (within-members↔, members-adding) Iff·rfl
+  applies↔ (caseSplit e c d) = simp (and↔, within-members↔, members-adding) Iff·rfl
+  applies↔ (counting K) = simp listed Iff·rfl
+
+  -- a known label has no literal past the table, so the number of its literals in the table is the whole of it
+  shown↔ : Accepted D → (lits : List Literal) → ((l : Literal) → l ∈ lits → entryOf l < D .entries) → ((l : Literal) → l ∈ lits → So (isRow (rowOf D l)))
+      → (c j : ℕ) → So (within (num j) (knownLabel D num i N lits c)) ↔ ((l : Literal) → So (members (num j) l) → Known D (members N) (rowsOf D lits) c l)
+  shown↔ A lits inside rows c j = simp (within-members↔, members-labelOf, known↔) (
+    λ h l u. h l u .1,
+    λ h l u. (known-in D A (members N) (rowsOf D lits) c (rows-in D A lits inside rows) l (h l u), h l u),
+  )
+
+  shows↔ : Accepted D → (s : Step) → Named D num i N s → Applies D num i N s → So (showsTest D num i N s) ↔ Shows D num i N s
+  unfolding whenCounting
+  shows↔ A (counting K) n a = simp (listed, ifCited↔, shown↔ A (K .rows) (n .0) (λ l m. a .0 l m .1)) Iff·rfl
+  shows↔ A (contradiction l) n a = (λ h. tt, λ h. refl)
+  shows↔ A (conjunction e c) n a = (λ h. tt, λ h. refl)
+  shows↔ A (disjunction e c d) n a = (λ h. tt, λ h. refl)
+  shows↔ A (byRule q c) n a = (λ h. tt, λ h. refl)
+  shows↔ A (caseSplit e c d) n a = (λ h. tt, λ h. refl)
+
+  -- every split's value is within the limit
+  abbrev pub StepValuesFit : (ℕ → Bool) → Step → Type 0
+  StepValuesFit fits s = WhenCounting (λ K. ValuesFit fits (K .tree)) (asCounting s)
+
+  pub ends↔ : (fits : ℕ → Bool) (s : Step) → So (endsTest D num i N fits s) ↔ (Ends D num i N s × StepValuesFit fits s)
+  ends↔ fits s =
+      let t = whenCounting↔ (λ K. closedTest (bounds (rowsOf D (K .rows))) (openAt (K .cells)) fits (K .tree))
+      (λ K. Closed (bounds (rowsOf D (K .rows))) (openAt (K .cells)) (K .tree) × ValuesFit fits (K .tree))
+      (λ K. tree↔ _ (openAt (K .cells)) fits _ (K .tree)) (asCounting s) in
+      let b = when-both (λ K. Closed (bounds (rowsOf D (K .rows))) (openAt (K .cells)) (K .tree)) (λ K. ValuesFit fits (K .tree)) (asCounting s) in
+      (λ h. b .0 (t .0 h), λ h. t .1 (b .1 h))
+
+  -- none of 16 to 19 refuses a record exactly if it keeps the rules and its split values are within the limit
+  pub record↔ : Accepted D → (fits : ℕ → Bool) (s : Step) → (recordRefusal D num i N fits s ≡ none) ↔ (RecordOk D num i N s × StepValuesFit fits s)
+  unfolding recordRefusal
+  record↔ A fits s = simp (unless↔, and↔, in-table↔, named↔, applies↔, ends↔) (
+    λ t. (record {
+      in-table = t .0 .0;
+      named = t .0 .1;
+      applies = t .1 .0;
+      shows = shows↔ A s (t .0 .1) (t .1 .0) .0 (t .1 .1 .0);
+      ends = t .1 .1 .1 .0 .0;
+    }, t .1 .1 .1 .0 .1),
+    λ o. ((o .0 .in-table, o .0 .named), (o .0 .applies, (shows↔ A s (o .0 .named) (o .0 .applies) .1 (o .0 .shows), ((o .0 .ends, o .1), refl)))),
+  )
+
+-- 20
+members-end : (W : List Literal) (l : Literal) → So (members (endLabel W) l) ↔ ((pos 0 ≡ l) ⊎ (l ∈ W))
+unfolding endLabel
+members-end [] l = rw (members-adding 0 (pos 0) l) (
+  λ h. elim (plus↔ (members 0) (pos 0) l .0 h) [ inl u ↦ absurd (no-literal l u) | inr e ↦ inl e ],
+  λ h. plus↔ (members 0) (pos 0) l .1 (elim h [ inl e ↦ inr e | inr m ↦ elim m [ ] ]),
+)
+members-end (x ∷ W) l = rw (members-adding (endLabel W) x l) (
+  λ h. elim (plus↔ (members (endLabel W)) x l .0 h) [
+    | inl u ↦ elim (members-end W l .0 u) [ inl e ↦ inl e | inr m ↦ inr (List·Memᴰ·tail m) ]
+    | inr e ↦ inr (List·Memᴰ·head (sym e))
+  ],
+  λ h. plus↔ (members (endLabel W)) x l .1 (elim h [
+    | inl e ↦ inl (members-end W l .1 (inl e))
+    | inr m ↦ elim (List·Memᴰ·cases-cons m) [ inl e ↦ inr (sym e) | inr t ↦ inl (members-end W l .1 (inr t)) ]
+  ]),
+)
+
+pub end↔ : (W : List Literal) (N : ℕ) → So (within N (endLabel W)) ↔ EndOk W N
+end↔ W N = simp (within-members↔, members-end) Iff·rfl
+
+pub form↔ : (lim : RefutationLimits) (o : Option Counting) → So (whenCounting (formTest lim) o) ↔ (WhenCounting FormOk o × WhenCounting (FormFits lim) o)
+form↔ lim o =
+    let t = whenCounting↔ (formTest lim) (λ K. FormOk K × FormFits lim K) (λ K. simp reading Iff·rfl) o in
+    let b = when-both FormOk (FormFits lim) o in
+    (λ h. b .0 (t .0 h), λ h. t .1 (b .1 h))
+
+-- a refutation of one record or more is refused by none of 10 and 16 to 20 exactly if it closes and is within the limits
+pub refutation↔ : (lim : RefutationLimits) (D : Description) → Accepted D → (W : List Literal) (C : Refutation) → 1 ≤ length C
+    → (refutationRefusal lim D W C ≡ none) ↔ (Closes D W C × RefutationFits lim C)
+unfolding refutationRefusal
+refutation↔ lim D A W C h = simp (records↔, refuse↔, unless↔, form↔, record↔ D (labelAt C), A, end↔) (
+  λ t. (
+    record { some-record = h; forms = λ i l. t .0 i l .0 .0; records = λ i l. t .1 .0 i l .0; end = t .1 .1 .0 .0 },
+    λ i l. (t .0 i l .0 .1, t .1 .0 i l .1),
+  ),
+  λ o. (λ i l. ((o .0 .forms i l, o .1 i l .0), refl), (λ i l. (o .0 .records i l, o .1 i l .1), ((o .0 .end, refl), refl))),
+)
+
+-- lifted: no limits
+pub lifted-refutation↔ : (D : Description) → Accepted D → (W : List Literal) (C : Refutation) → 1 ≤ length C
+    → (refutationRefusal anyRefutation D W C ≡ none) ↔ Closes D W C
+lifted-refutation↔ D A W C h = (
+  λ e. refutation↔ anyRefutation D A W C h .0 e .0,
+  λ k. refutation↔ anyRefutation D A W C h .1 (k, λ i l. fits (asCounting (recordAt C i .step))),
+)
+  where
+    fits : (o : Option Counting) → WhenCounting (FormFits anyRefutation) o × WhenCounting (λ K. ValuesFit (λ v. true) (K .tree)) o
+    fits none = (tt, tt)
+    fits (some K) = ((refl, refl), fits-all (K .tree))

@@ -1,0 +1,7 @@
+pub mod Trees
+pub mod Rows
+pub mod TreeLaws
+pub mod Small
+pub mod Multipliers
+pub mod Complete
+pub mod Solutions
