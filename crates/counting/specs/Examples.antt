@@ -56,39 +56,40 @@ unbalanced : (passes (atMost 1 ∷ atLeast 3 ∷ []) (leb 2) (leaf (1 ∷ 1 ∷ 
 unfolding treeTest leafTest allBelow has sumBelow
 unbalanced = (refl, limits-hold (atMost 1 ∷ atLeast 3 ∷ []) (leb 2) (λ c. only (eqb c 2) 3) .1 (omega arith))
 
--- ---- splits: of an open cell other than 0 below the last, at a value within the limit
--- open are 0, 3, 4, 5, …
+-- ---- splits
+-- at most 1 and at least 3 once more, with the cells 0, 3, 4, 5, … open; each half closes by the rows alone
 splitAt : ℕ → ℕ → Bool
 splitAt c v = passes (atMost 1 ∷ atLeast 3 ∷ []) (λ c. eqb c 0 || leb 3 c) (split c v (leaf (1 ∷ 1 ∷ 0 ∷ [])) (leaf (1 ∷ 1 ∷ 0 ∷ [])))
 
+-- an open cell, at the greatest value allowed
 split-open : splitAt 3 1000 ≡ true
 unfolding splitAt treeTest leafTest allBelow has
 split-open = refl
 
-split-shut : splitAt 2 1000 ≡ false
-unfolding splitAt treeTest leafTest allBelow has
-split-shut = refl
-
-split-none : splitAt 0 1000 ≡ false
-unfolding splitAt treeTest leafTest allBelow has
-split-none = refl
-
-split-past : splitAt 4 1000 ≡ false
-unfolding splitAt treeTest leafTest allBelow has
-split-past = refl
-
+-- one more
 split-value : splitAt 3 1001 ≡ false
 unfolding splitAt treeTest leafTest allBelow has
 split-value = refl
 
--- ---- the form: one multiplier a row, then one a split
-few-multipliers : formed 2 (leaf (1 ∷ [])) ≡ false
-unfolding formed
-few-multipliers = refl
+-- a cell shown empty
+split-shut : splitAt 2 1000 ≡ false
+unfolding splitAt treeTest leafTest allBelow has
+split-shut = refl
 
-many-multipliers : formed 2 (leaf (1 ∷ 1 ∷ 1 ∷ [])) ≡ false
+-- cell 0
+split-none : splitAt 0 1000 ≡ false
+unfolding splitAt treeTest leafTest allBelow has
+split-none = refl
+
+-- a cell past the last
+split-past : splitAt 4 1000 ≡ false
+unfolding splitAt treeTest leafTest allBelow has
+split-past = refl
+
+-- ---- the form: a leaf under two rows with one multiplier too few, with its two, and with one too many
+multipliers : (formed 2 (leaf (1 ∷ [])) ≡ false) × (formed 2 (leaf (1 ∷ 1 ∷ [])) ≡ true) × (formed 2 (leaf (1 ∷ 1 ∷ 1 ∷ [])) ≡ false)
 unfolding formed
-many-multipliers = refl
+multipliers = (refl, refl, refl)
 
 -- ---- a leaf closes only what no fraction solves
 -- the limits with each bound times d
@@ -116,7 +117,8 @@ leaf-scaled : (n : ℕ) (open? : ℕ → Bool) (d : ℕ) → 0 < d → (ls : Lis
     → LeafCloses n open? ls ms → LeafCloses n open? (scaled d ls) ms
 leaf-scaled n open? d z ls ms h = record {
   balanced = λ c l o. rw (scaled-weight d lower c ls ms, scaled-weight d upper c ls ms) (h .balanced c l o);
-  gains = gap↔ (scaled d ls) ms .1 (omega (arith, scaled-worth d lower ls ms, scaled-worth d upper ls ms, mul-le-mul-left d (gap↔ ls ms .0 (h .gains))));
+  gains = gap↔ (scaled d ls) ms .1
+      (omega (arith, scaled-worth d lower ls ms, scaled-worth d upper ls ms, mul-le-mul-left d (gap↔ ls ms .0 (h .gains))));
 }
 
 -- ---- exactly one A, one B and one C, where each filler has exactly two of them: halves solve it, whole numbers do not

@@ -7,7 +7,7 @@ use mathlib.Core.List.{List, [], _∷_, List·Memᴰ·head, List·Memᴰ·tail}
 use native.Mathlib.Omega.{arith}
 use lib.Dec.{eqb}
 use lib.ListN.{length}
-use Rattle.logic.specs.Tests.{So, decide, and-l, and-r, so-false, so-eqb, eqb-so}
+use Rattle.logic.specs.Tests.{So, decide, and-l, and-r, so-false, so-eqb, eqb-so, reading}
 use Rattle.logic.specs.Lists.{_∈_}
 use Rattle.logic.specs.Sums.{sumBelow, only, only-off, only-zero, only-add, sum-one}
 use Rattle.counting.specs.Trees.{Side, lower, upper, sameSide, Meets, Limit, limit, share, price, weight, worth}
@@ -181,7 +181,7 @@ module _ (n : ℕ) (open? : ℕ → Bool) (ls : List Limit) where
   unfolding formed
   clash w a b p q h = (
     leaf ms,
-    rw (plus-long (length ls) (p .ms) (q .ms) (p .long) (q .long)) (eqb-so (length ls)),
+    simp reading (omega (arith, plus-long (length ls) (p .ms) (q .ms) (p .long) (q .long))),
     record {
       balanced = λ c l o. rw (weight-tally lower c ls ms, weight-tally upper c ls ms) (omega (
         arith,

@@ -7,11 +7,12 @@ use native.Mathlib.Omega.{arith}
 use Rattle.logic.specs.Sums.{sumBelow, only, only-le, sum-le, sum-cong, sum-add, sum-zero}
 use Rattle.counting.specs.Trees.{lower, upper, Limit, limit, live, total, HoldAll}
 
--- the lower bounds, added up
+-- a lower limit's bound, and 0 for an upper limit
 abbrev pub lowerOf : Limit → ℕ
 lowerOf (limit lower b k) = b
 lowerOf (limit upper b k) = 0
 
+-- the lower bounds, added up
 abbrev pub lowersOf : List Limit → ℕ
 lowersOf [] = 0
 lowersOf (l ∷ ls) = lowerOf l + lowersOf ls

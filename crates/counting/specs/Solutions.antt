@@ -35,7 +35,8 @@ hold-from n open? x (r ∷ rows) j t e = go (hold-from n open? x rows (suc j) (�
     here : t 0 ≡ total n open? x (λ c. has c j)
     here = e 0 j (omega arith)
 
-    go : MeetAll rows (λ i. t (suc i)) ↔ HoldAll n open? (limitsFrom (suc j) rows) x → MeetAll (r ∷ rows) t ↔ HoldAll n open? (limitsFrom j (r ∷ rows)) x
+    go : MeetAll rows (λ i. t (suc i)) ↔ HoldAll n open? (limitsFrom (suc j) rows) x
+        → MeetAll (r ∷ rows) t ↔ HoldAll n open? (limitsFrom j (r ∷ rows)) x
     go (there, back) = (λ h. (rw (← here) (h 0 (omega arith)), there (λ i l. h (suc i) (omega arith))), meet)
       where
         meet : HoldAll n open? (limitsFrom j (r ∷ rows)) x → MeetAll (r ∷ rows) t
@@ -43,7 +44,7 @@ hold-from n open? x (r ∷ rows) j t e = go (hold-from n open? x rows (suc j) (�
         meet h (suc i) l = back (h .1) i (omega arith)
 
 pub limits-hold : (rows : List Bound) (open? : ℕ → Bool) (x : ℕ → ℕ) → Solves rows open? x ↔ HoldAll (2 ^ length rows) open? (limits rows) x
-limits-hold rows open? x = hold-from (2 ^ length rows) open? x rows 0 _ (λ i m e. ap (λ m. total (2 ^ length rows) open? x (λ c. has c m)) (omega arith))
+limits-hold rows open? x = hold-from (2 ^ length rows) open? x rows 0 _ (λ i m e. let q : i ≡ m = omega arith in rw q)
 
 lowers-from : (i : ℕ) (rows : List Bound) → lowersOf (limitsFrom i rows) ≡ lowers rows
 unfolding lowers
@@ -68,12 +69,13 @@ cellAt-in s (suc c) y h = elim (decLt y (sumBelow c s)) [
   | no d ↦ rw (so-false (ltb y (sumBelow c s)) (λ u. d (so-ltb y (sumBelow c s) u))) (omega arith, omega arith)
 ]
 
--- a test passes for as many fillers as the cells that pass have
+-- a test of cells passes for as many fillers as the cells that pass it have
 count-cellAt : (s : ℕ → ℕ) (p : ℕ → Bool) (n : ℕ) → countBelow (sumBelow n s) (λ y. p (cellAt s n y)) ≡ sumBelow n (λ c. only (p c) (s c))
 unfolding cellAt sumBelow
 count-cellAt s p zero = refl
 count-cellAt s p (suc n) = sum-append (sumBelow n s) (s n) (λ y. only (p (cellAt s (suc n) y)) 1)
-    ∙ ap₂ _+_ (sum-cong (sumBelow n s) _ (λ y. only (p (cellAt s n y)) 1) old ∙ count-cellAt s p n) (sum-cong (s n) _ (λ y. only (p n) 1) new ∙ const (s n) (p n))
+    ∙ ap₂ _+_ (sum-cong (sumBelow n s) _ (λ y. only (p (cellAt s n y)) 1) old ∙ count-cellAt s p n)
+    (sum-cong (s n) _ (λ y. only (p n) 1) new ∙ const (s n) (p n))
   where
     old : (y : ℕ) → y < sumBelow n s → only (p (cellAt s (suc n) y)) 1 ≡ only (p (cellAt s n y)) 1
     old y h = rw (ltb-so y (sumBelow n s) h)
@@ -94,7 +96,7 @@ module _ (rows : List Bound) (open? : ℕ → Bool) where
   abbrev cells : ℕ
   cells = 2 ^ length rows
 
-  -- a solution has as many fillers as its open cells have
+  -- as many fillers as the open cells have in all
   solution-fillers : (x : ℕ → ℕ) → Solves rows open? x → (F : Fillers rows open?) × (F .count ≤ sumBelow cells x)
   solution-fillers x h = (
     record {
@@ -123,6 +125,7 @@ module _ (rows : List Bound) (open? : ℕ → Bool) where
     abbrev cellOf : ℕ → ℕ
     cellOf y = setOf (length rows) (F .counts y)
 
+    -- how many fillers the cell c has
     abbrev sizes : ℕ → ℕ
     sizes c = countBelow (F .count) (λ y. eqb (cellOf y) c)
 
@@ -147,6 +150,7 @@ module _ (rows : List Bound) (open? : ℕ → Bool) where
               u (rw (so-eqb (cellOf y) c (and-l (eqb (cellOf y) c) _ e)) at (open-cell y h (and-r (eqb (cellOf y) c) _ e)))))))
         ]
 
+  -- 00, demand 2: a whole-number solution over the open cells exactly if some finite set of fillers meets every row
   pub fillers : ((x : ℕ → ℕ) × Solves rows open? x) ↔ Fillers rows open?
   fillers = (λ (x, h). solution-fillers x h .0, λ F. (sizes F, λ i l. rw (total-sizes F i l) (F .meets i l)))
 

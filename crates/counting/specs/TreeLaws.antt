@@ -10,7 +10,7 @@ use native.Mathlib.Nat.{mul-le-mul-left}
 use lib.Dec.{eqb, ltb}
 use lib.IntN.{pos, subℕ}
 use lib.Signed.{ltZ}
-use Rattle.logic.specs.Tests.{So, decide, so-and, and-r, so-false, so-ltb, ltb-so, so-eqb, eqb-so, and↔, reading}
+use Rattle.logic.specs.Tests.{So, decide, so-and, and-l, and-r, so-false, so-ltb, ltb-so, so-eqb, eqb-so, and↔, reading}
 use Rattle.logic.specs.Bounded.{below}
 use Rattle.logic.specs.Sums.{sumBelow, only, only-on, only-off, sum-cong, sum-le, sum-zero, sum-add, sum-mul, sum-one}
 use Rattle.counting.specs.Trees.{Side, lower, upper, sameSide, Meets, Limit, limit, atMost, moreThan, share, price, weight, worth, gap}
@@ -135,8 +135,16 @@ module _ (n : ℕ) (open? : ℕ → Bool) where
     | no d ↦ tree-sound r _ (h .3) x (hold-snoc x ls (moreThan c v) k (omega arith))
   ]
 
-  -- whether a tree closes is told by the open cells below n
-  pub tree-open : (open′ : ℕ → Bool) → ((c : ℕ) → c < n → open′ c ≡ open? c) → (ls : List Limit) (t : Tree)
+  -- whether a tree closes is told by the open cells above 0 and below n
+  pub tree-open : (open′ : ℕ → Bool) → ((c : ℕ) → c < n → 0 < c → open′ c ≡ open? c) → (ls : List Limit) (t : Tree)
       → TreeCloses n open? ls t → TreeCloses n open′ ls t
-  tree-open open′ e ls (leaf ms) h = record { balanced = λ c l o. h .balanced c l (rw (e c l) at o); gains = h .gains }
-  tree-open open′ e ls (split c v l r) h = (h .0, rw (e c (h .0)) (h .1), tree-open open′ e _ l (h .2), tree-open open′ e _ r (h .3))
+  tree-open open′ e ls (leaf ms) h = record {
+    balanced = λ c l o. h .balanced c l (rw (e c l (so-ltb 0 c (and-l (ltb 0 c) (open′ c) o))) at o);
+    gains = h .gains;
+  }
+  tree-open open′ e ls (split c v l r) h = (
+    h .0,
+    rw (e c (h .0) (so-ltb 0 c (and-l (ltb 0 c) (open? c) (h .1)))) (h .1),
+    tree-open open′ e _ l (h .2),
+    tree-open open′ e _ r (h .3),
+  )

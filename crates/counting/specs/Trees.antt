@@ -1,7 +1,6 @@
 -- Limits on the sizes of cells, and the trees that show that no sizes keep them (01, "The counting step"; FORMAT 6).
 -- Over any numbered cells below n, of which some are open; a row is a limit, and so is each half of a split.
-use Prim.Native.Nat.{ℕ, zero, suc, _+_, _*_, _≤_, _<_, max}
-use mathlib.Core.Path.{_≡_}
+use Prim.Native.Nat.{ℕ, suc, _+_, _*_, _≤_, _<_, max}
 use mathlib.Core.Bool.{Bool, true, false, _&&_}
 use mathlib.Core.List.{List, [], _∷_, _++_}
 use lib.Dec.{eqb, leb, ltb}

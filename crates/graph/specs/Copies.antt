@@ -14,35 +14,27 @@ use Rattle.logic.specs.Sums.{sumBelow, only, countBelow, maxBelow, max-above, o
 use Rattle.graph.specs.Graphs.{Edge, Graph, edgesAt, ofRole, total}
 use Rattle.graph.specs.Line.{copies, joins}
 
--- the edge that a copy j of y is joined by: the pair has just that edge's roles
-abbrev pub Owner : List Edge → ℕ → ℕ → Type 0
-Owner es y j = (E : Edge) × (E ∈ es) × (E .target ≡ y) × ((s : ℕ) → joins es y j s ≡ ofRole s E)
-
-pub owner : (es : List Edge) (y j r : ℕ) → So (joins es y j r) → Owner es y j
-unfolding joins
-owner [] y j r e = absurd (false≢true e)
-owner (E ∷ es) y j r e = elim (decide (eqb (E .target) y)) [
-  | inl u ↦ elim (decide (ltb j (E .count))) [
-    | inl v ↦ (E, List·Memᴰ·head refl, so-eqb (E .target) y u, λ s. rw (u, v))
-    | inr v ↦ later (j - E .count) (owner es y (j - E .count) r) (λ s. rw (u, so-false _ v))
-  ]
-  | inr u ↦ later j (owner es y j r) (λ s. rw (so-false _ u))
-]
-  where
-    later : (i : ℕ) → (So (joins es y i r) → Owner es y i) → ((s : ℕ) → joins (E ∷ es) y j s ≡ joins es y i s) → Owner (E ∷ es) y j
-    later i find same = let w = find (sym (same r) ∙ e) in (w .0, List·Memᴰ·tail (w .1), w .2, λ s. same s ∙ w .3 s)
-
--- the first c of K copies all pass the test m or none does, and the rest pass as g says
-first-copies : (f g : ℕ → Bool) (c K : ℕ) (m : Bool) → c ≤ K → ((j : ℕ) → j < c → f j ≡ m) → ((i : ℕ) → f (c + i) ≡ g i)
-    → countBelow K f ≡ only m c + countBelow (K - c) g
-first-copies f g c K m h now later =
+-- ---- counts
+-- of K copies the first c pass as one, and the others as g says
+first-copies : (g : ℕ → Bool) (c K : ℕ) (m b : Bool) → c ≤ K
+    → countBelow K (λ j. cond (ltb j c) m (g (j - c)) && b) ≡ only (m && b) c + countBelow (K - c) (λ i. g i && b)
+first-copies g c K m b h =
     let all : K ≡ c + (K - c) = omega arith in
-    ap (λ k. countBelow k f) all ∙ sum-append c (K - c) (λ j. only (f j) 1)
-    ∙ ap₂ _+_ (first m now) (sum-cong (K - c) (λ i. only (f (c + i)) 1) (λ i. only (g i) 1) (λ i _. ap (λ b. only b 1) (later i)))
+    ap (λ k. sumBelow k f) all ∙ sum-append c (K - c) f
+    ∙ ap₂ _+_ (sum-cong c f (λ _. only (m && b) 1) first ∙ alike (m && b)) (sum-cong (K - c) (λ i. f (c + i)) (λ i. only (g i && b) 1) later)
   where
-    first : (m : Bool) → ((j : ℕ) → j < c → f j ≡ m) → countBelow c f ≡ only m c
-    first true e = count-all c f e
-    first false e = sum-zero c (λ j. only (f j) 1) (λ j k. ap (λ b. only b 1) (e j k))
+    f : ℕ → ℕ
+    f j = only (cond (ltb j c) m (g (j - c)) && b) 1
+
+    first : (j : ℕ) → j < c → f j ≡ only (m && b) 1
+    first j k = rw (ltb-so j c k)
+
+    alike : (t : Bool) → countBelow c (λ _. t) ≡ only t c
+    alike true = count-all c (λ _. true) (λ j k. refl)
+    alike false = sum-zero c (λ _. 0) (λ j k. refl)
+
+    later : (i : ℕ) → i < K - c → f (c + i) ≡ only (g i && b) 1
+    later i _ = let e : c + i - c ≡ i = omega arith in rw (so-false (ltb (c + i) c) (λ q. omega (arith, so-ltb (c + i) c q)), e)
 
 -- the copies of y that role r joins are the counts of the edges to y of that role, if all edges to y have room
 joins-count : (es : List Edge) (K y r : ℕ) (b : Bool) → total es (λ E. eqb (E .target) y) ≤ K
@@ -50,11 +42,9 @@ joins-count : (es : List Edge) (K y r : ℕ) (b : Bool) → total es (λ E. eqb 
 unfolding joins total
 joins-count [] K y r b h = sum-zero K (λ j. 0) (λ i _. refl)
 joins-count (E ∷ es) K y r b h = elim (decide (eqb (E .target) y)) [
-  | inl u ↦ rw u (first-copies (λ j. cond (ltb j (E .count)) (ofRole r E) (joins es y (j - E .count) r) && b) (λ j. joins es y j r && b)
-      (E .count) K (ofRole r E && b) (omega (arith, only-on (eqb (E .target) y) (E .count) u)) (λ j k. rw (ltb-so j (E .count) k))
-      (λ i. let e : E .count + i - E .count ≡ i = omega arith in
-      rw (so-false (ltb (E .count + i) (E .count)) (λ q. let z = so-ltb (E .count + i) (E .count) q in omega arith), e))
-      ∙ ap (only (ofRole r E && b) (E .count) +_) (joins-count es (K - E .count) y r b (omega (arith, only-on (eqb (E .target) y) (E .count) u))))
+  | inl u ↦ let n = only-on (eqb (E .target) y) (E .count) u in
+      rw u (first-copies (λ j. joins es y j r) (E .count) K (ofRole r E) b (omega arith)
+      ∙ ap (only (ofRole r E && b) (E .count) +_) (joins-count es (K - E .count) y r b (omega arith)))
   | inr u ↦ rw (so-false _ u) (omega (arith, joins-count es K y r b (omega arith)))
 ]
 
@@ -101,6 +91,25 @@ total-at (F ∷ es) p E m q = elim (List·Memᴰ·cases-cons m) [
   | inl e ↦ let y = ap (λ X. X .count) e in omega (arith, only-on (p F) (F .count) (subst (λ X. So (p X)) e q))
   | inr t ↦ omega (arith, total-at es p E t q)
 ]
+
+-- ---- one pair
+-- the edge that takes copy j of y: a pair to it has just that edge's roles
+abbrev pub Owner : List Edge → ℕ → ℕ → Type 0
+Owner es y j = (E : Edge) × (E ∈ es) × (E .target ≡ y) × ((s : ℕ) → joins es y j s ≡ ofRole s E)
+
+pub owner : (es : List Edge) (y j r : ℕ) → So (joins es y j r) → Owner es y j
+unfolding joins
+owner [] y j r e = absurd (false≢true e)
+owner (E ∷ es) y j r e = elim (decide (eqb (E .target) y)) [
+  | inl u ↦ elim (decide (ltb j (E .count))) [
+    | inl v ↦ (E, List·Memᴰ·head refl, so-eqb (E .target) y u, λ s. rw (u, v))
+    | inr v ↦ later (j - E .count) (owner es y (j - E .count) r) (λ s. rw (u, so-false _ v))
+  ]
+  | inr u ↦ later j (owner es y j r) (λ s. rw (so-false _ u))
+]
+  where
+    later : (i : ℕ) → (So (joins es y i r) → Owner es y i) → ((s : ℕ) → joins (E ∷ es) y j s ≡ joins es y i s) → Owner (E ∷ es) y j
+    later i find same = let w = find (sym (same r) ∙ e) in (w .0, List·Memᴰ·tail (w .1), w .2, λ s. same s ∙ w .3 s)
 
 -- ---- K
 pub copies-pos : (G : Graph) → 1 ≤ copies G

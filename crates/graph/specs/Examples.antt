@@ -54,9 +54,9 @@ tops = plain (top ∷ [])
 abbrev trial : Description
 trial = plain (top ∷ atLeast 0 (pos 0) 2 ∷ atLeast 0 (pos 0) 3 ∷ both (pos 1) (neg 2) ∷ both (neg 1) (pos 2) ∷ [])
 
--- literal 2 a name, 5 at most 1 of it
+-- literal 2 a name, 4 at least 2 of it, 5 at most 1 of it, 7 some without it; 8 another name
 abbrev few : Description
-few = plain (top ∷ name ∷ atLeast 0 (pos 1) 2 ∷ [])
+few = plain (top ∷ name ∷ atLeast 0 (pos 1) 2 ∷ every 0 (pos 1) ∷ name ∷ [])
 
 -- role 0 transitive, under role 1; literal 2 a name, 4 and 6 "every" of it on role 0 and on role 1
 abbrev under : Description
@@ -111,8 +111,8 @@ rows =
     ∷ row anyGraph trial root (P3 1) (refused 15 0)
     ∷ row anyGraph trial root (P3 3) (refused 15 0)
     -- 11: the last literal of the table, and one past it; literal 0 missing
-    ∷ row anyGraph few [] (node (0 ∷ 5 ∷ []) [] ∷ []) none
-    ∷ row anyGraph few [] (node (0 ∷ 6 ∷ []) [] ∷ []) (refused 11 0)
+    ∷ row anyGraph few [] (node (0 ∷ 9 ∷ []) [] ∷ []) none
+    ∷ row anyGraph few [] (node (0 ∷ 10 ∷ []) [] ∷ []) (refused 11 0)
     ∷ row anyGraph few [] (node (2 ∷ []) [] ∷ []) (refused 11 0)
     -- what is wanted is wanted of record 0 alone (P3's record 1 lacks it), before rule 12
     ∷ row anyGraph trial root (node (0 ∷ []) [] ∷ []) (refused 11 0)
@@ -127,6 +127,11 @@ rows =
     ∷ row anyGraph under [] (loop (edge 0 2 1)) none
     ∷ row anyGraph under [] (loop (edge 0 3 1)) none
     ∷ row anyGraph under [] (loop (edge 0 1 1)) (refused 13 0)
+    -- 13 before 14, 14 before 15; but an earlier record comes before a smaller number
+    ∷ row anyGraph under [] (node (0 ∷ 7 ∷ []) (edge 0 1 1 ∷ []) ∷ []) (refused 13 0)
+    ∷ row anyGraph few [] (node (0 ∷ 4 ∷ 7 ∷ []) [] ∷ []) (refused 14 0)
+    ∷ row anyGraph few [] (node (0 ∷ 4 ∷ []) [] ∷ node [] [] ∷ []) (refused 15 0)
+    ∷ row anyGraph few [] (node (0 ∷ []) [] ∷ node [] [] ∷ []) (refused 11 1)
     -- the limit of a count belongs to 13: after 12, before 15
     ∷ row storedGraph tops [] (loop (edge 0 1 1000)) none
     ∷ row storedGraph tops [] (loop (edge 0 1 1001)) (refused 13 0)

@@ -1,7 +1,7 @@
 pub mod Graphs
-pub mod GraphTests
-pub mod Relabel
 pub mod Line
 pub mod Copies
 pub mod Sound
+pub mod GraphTests
+pub mod Relabel
 pub mod Examples

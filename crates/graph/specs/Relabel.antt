@@ -2,14 +2,14 @@
 use Prim.Native.Nat.{ℕ, _+_}
 use mathlib.Core.Path.{_≡_, refl, sym, ap, ap₂, subst, fun-ext}
 use mathlib.Core.Logic.{_⊎_}
-use mathlib.Core.Bool.{Bool, _&&_}
+use mathlib.Core.Bool.{Bool}
 use mathlib.Core.List.{List, [], _∷_, List·Memᴰ·head, List·Memᴰ·tail}
 use Rattle.logic.specs.Tests.{So}
 use Rattle.logic.specs.Lists.{_∈_}
 use Rattle.logic.specs.Sums.{only}
 use Rattle.description.specs.Literals.{Literal, opposite, Label}
 use Rattle.description.specs.Descriptions.{Description}
-use Rattle.graph.specs.Graphs.{Edge, ofRole, total, counted, Passes, NodeOk}
+use Rattle.graph.specs.Graphs.{Edge, total, counted, Passes, NodeOk}
 
 pub total-cong : (es : List Edge) (p q : Edge → Bool) → ((E : Edge) → E ∈ es → p E ≡ q E) → total es p ≡ total es q
 unfolding total
@@ -38,4 +38,4 @@ relabel D size lab lab′ W L L′ es same own o = rw (fun-ext own) (record {
     move E m P = subst P (sym (fun-ext (same E m)))
 
     counts : (r : ℕ) (l : Literal) → counted lab′ es r l ≡ counted lab es r l
-    counts r l = total-cong es (λ E. ofRole r E && lab′ (E .target) l) (λ E. ofRole r E && lab (E .target) l) (λ E m. ap (ofRole r E &&_) (same E m l))
+    counts r l = total-cong es _ _ (λ E m. rw (same E m l))

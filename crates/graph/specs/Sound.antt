@@ -1,6 +1,6 @@
 -- A graph that keeps the rules stands for a model: its line is one, and element 0 has what is wanted.
 use Prim.Native.Nat.{ℕ, zero, suc, _*_, _/_, _%_, _≤_, _<_}
-use mathlib.Core.Path.{_≡_, refl, sym, _∙_, ap, subst}
+use mathlib.Core.Path.{_≡_, refl, sym, _∙_, subst}
 use mathlib.Core.Logic.{_↔_, _⊎_, inl, inr}
 use mathlib.Core.Bool.{Bool, _&&_}
 use mathlib.Core.List.{List}
@@ -14,7 +14,7 @@ use Rattle.logic.specs.Lists.{_∈_}
 use Rattle.logic.specs.Sums.{countBelow, count-le, count-pos}
 use Rattle.logic.specs.Closure.{closure, closure-base, closure-ind, closure-trans}
 use Rattle.description.specs.Literals.{Literal, pos, neg, opposite, entryOf, Label, entryOf-opposite}
-use Rattle.description.specs.Descriptions.{Entry, top, name, both, every, atLeast, Description, isName}
+use Rattle.description.specs.Descriptions.{Entry, top, name, both, every, atLeast, Description}
 use Rattle.description.specs.Roles.{ancestor, simple, anc-refl, anc-in, anc-trans, parent-anc}
 use Rattle.description.specs.Acceptance.{Accepted, fields-at}
 use Rattle.interpretation.specs.Meaning.{Interpretation, meaning, truth, truth-eq, holds}
@@ -146,7 +146,7 @@ module _ (D : Description) (A : Accepted D) (W : List Literal) (G : Graph) (g : 
     entry-true name q = (λ p. same ∙ p, λ p t. ok z hz .label-ok .consistent e he (sym same ∙ t) p)
       where
         same : truth D I e z ≡ lab z (pos e)
-        same = truth-eq D A I e z name he q ∙ ap (λ x. isName x && lab z (pos e)) q
+        same = truth-eq D A I e z name he q ∙ (cc)
     entry-true (both a b) q =
         let h = fields-at D A e (both a b) he q in let o = ok z hz .both-ok e he a b q in let m = both-true D A I e z a b he q in (
           λ p. m .1 (ih a (h .0) z hz (o .0 p .0), ih b (h .1) z hz (o .0 p .1)),

@@ -1,3 +1,4 @@
 pub mod Meaning
 pub mod Models
 pub mod Reading
+pub mod Examples

@@ -82,4 +82,11 @@ at-member [] d i h = absurd (omega arith)
 at-member (x ∷ xs) d zero h = List·Memᴰ·head refl
 at-member (x ∷ xs) d (suc i) h = List·Memᴰ·tail (at-member xs d i (omega arith))
 
+pub member-at : {A : Type 0} (xs : List A) (d x : A) → x ∈ xs → (i : ℕ) × (i < length xs) × (getD xs i d ≡ x)
+member-at [] d x m = elim m [ ]
+member-at (y ∷ xs) d x m = elim (List·Memᴰ·cases-cons m) [
+  | inl e ↦ (0, omega arith, sym e)
+  | inr t ↦ let r = member-at xs d x t in (suc (r .0), omega (arith, r .1), r .2)
+]
+
 pub ruleset listed = (below, each↔, some↔)

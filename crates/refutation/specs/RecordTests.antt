@@ -57,7 +57,7 @@ module _ (D : Description) (num : ℕ → ℕ) (i N : ℕ) where
 
   -- 17
   unfoldable pub appliesTest : Step → Bool
-  appliesTest (contradiction l) = inLabel D num i N l && inLabel D num i N (opposite l)
+  appliesTest (contradiction l) = inLabel D num i (members N) l && inLabel D num i (members N) (opposite l)
   appliesTest (conjunction e c) = members N (pos e) && isBoth (λ a b. within (num c) (adding (adding N a) b)) (D .entry e)
   appliesTest (disjunction e c d) = members N (neg e)
       && isBoth (λ a b. within (num c) (adding N (opposite a)) && within (num d) (adding N (opposite b))) (D .entry e)
@@ -116,7 +116,7 @@ when-both P Q none = (λ h. (tt, tt), λ h. tt)
 when-both P Q (some K) = (λ h. h, λ h. h)
 
 module _ (D : Description) (num : ℕ → ℕ) (i N : ℕ) where
-  pub named↔ : (s : Step) → So (namedTest D num i N s) ↔ Named D num i N s
+  pub named↔ : (s : Step) → So (namedTest D num i N s) ↔ Named D num i (members N) s
   unfolding namedTest
   named↔ (contradiction l) = simp listed Iff·rfl
   named↔ (conjunction e c) = simp listed Iff·rfl
@@ -125,7 +125,7 @@ module _ (D : Description) (num : ℕ → ℕ) (i N : ℕ) where
   named↔ (caseSplit e c d) = simp listed Iff·rfl
   named↔ (counting K) = simp (listed, ifCited↔) Iff·rfl
 
-  pub applies↔ : (s : Step) → So (appliesTest D num i N s) ↔ Applies D num i N s
+  pub applies↔ : (s : Step) → So (appliesTest D num i N s) ↔ Applies D num i (members N) s
   unfolding appliesTest
   applies↔ (contradiction l) = and↔ _ _
   applies↔ (conjunction e c) = simp (and↔, isBoth↔, within-members↔, members-adding) Iff·rfl
@@ -142,7 +142,7 @@ module _ (D : Description) (num : ℕ → ℕ) (i N : ℕ) where
     λ h l u. (known-in D A (members N) (rowsOf D lits) c (rows-in D A lits inside rows) l (h l u), h l u),
   )
 
-  shows↔ : Accepted D → (s : Step) → Named D num i N s → Applies D num i N s → So (showsTest D num i N s) ↔ Shows D num i N s
+  shows↔ : Accepted D → (s : Step) → Named D num i (members N) s → Applies D num i (members N) s → So (showsTest D num i N s) ↔ Shows D num i (members N) s
   unfolding whenCounting
   shows↔ A (counting K) n a = simp (listed, ifCited↔, shown↔ A (K .rows) (n .0) (λ l m. a .0 l m .1)) Iff·rfl
   shows↔ A (contradiction l) n a = (λ h. tt, λ h. refl)
@@ -155,7 +155,7 @@ module _ (D : Description) (num : ℕ → ℕ) (i N : ℕ) where
   abbrev pub StepValuesFit : (ℕ → Bool) → Step → Type 0
   StepValuesFit fits s = WhenCounting (λ K. ValuesFit fits (K .tree)) (asCounting s)
 
-  pub ends↔ : (fits : ℕ → Bool) (s : Step) → So (endsTest D num i N fits s) ↔ (Ends D num i N s × StepValuesFit fits s)
+  pub ends↔ : (fits : ℕ → Bool) (s : Step) → So (endsTest D num i N fits s) ↔ (Ends D num i (members N) s × StepValuesFit fits s)
   ends↔ fits s =
       let t = whenCounting↔ (λ K. closedTest (bounds (rowsOf D (K .rows))) (openAt (K .cells)) fits (K .tree))
       (λ K. Closed (bounds (rowsOf D (K .rows))) (openAt (K .cells)) (K .tree) × ValuesFit fits (K .tree))
@@ -164,7 +164,7 @@ module _ (D : Description) (num : ℕ → ℕ) (i N : ℕ) where
       (λ h. b .0 (t .0 h), λ h. t .1 (b .1 h))
 
   -- none of 16 to 19 refuses a record exactly if it keeps the rules and its split values are within the limit
-  pub record↔ : Accepted D → (fits : ℕ → Bool) (s : Step) → (recordRefusal D num i N fits s ≡ none) ↔ (RecordOk D num i N s × StepValuesFit fits s)
+  pub record↔ : Accepted D → (fits : ℕ → Bool) (s : Step) → (recordRefusal D num i N fits s ≡ none) ↔ (RecordOk D num i (members N) s × StepValuesFit fits s)
   unfolding recordRefusal
   record↔ A fits s = simp (unless↔, and↔, in-table↔, named↔, applies↔, ends↔) (
     λ t. (record {

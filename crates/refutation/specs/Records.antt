@@ -82,8 +82,8 @@ FormOk K = (1 ≤ length (K .rows)) × ((suc (length (K .cells)) ≡ 2 ^ length 
 abbrev pub Formed : Step → Type 0
 Formed s = WhenCounting FormOk (asCounting s)
 
--- the record i, with label number N, after records with the label numbers num
-module _ (D : Description) (num : ℕ → ℕ) (i N : ℕ) where
+-- the record i, with label L, after records with the label numbers num
+module _ (D : Description) (num : ℕ → ℕ) (i : ℕ) (L : Label) where
   -- 16: literals and entries are of the table, rules of the query, records cited are earlier ones
   abbrev pub Named : Step → Type 0
   Named (contradiction l) = entryOf l < D .entries
@@ -97,9 +97,6 @@ module _ (D : Description) (num : ℕ → ℕ) (i N : ℕ) where
   -- the label cited lies within M
   abbrev pub Cites : ℕ → Label → Type 0
   Cites c M = Within (members (num c)) M
-
-  abbrev L : Label
-  L = members N
 
   -- literal 0 counts as in L
   abbrev pub inLabel : Literal → Bool
@@ -143,7 +140,7 @@ EndOk W N = (l : Literal) → So (members N l) → (pos 0 ≡ l) ⊎ (l ∈ W)
 pub record Closes (D : Description) (W : List Literal) (C : Refutation) : Type 0 where
   pub some-record : 1 ≤ length C
   pub forms : (i : ℕ) → i < length C → Formed (recordAt C i .step)
-  pub records : (i : ℕ) → i < length C → RecordOk D (labelAt C) i (labelAt C i) (recordAt C i .step)
+  pub records : (i : ℕ) → i < length C → RecordOk D (labelAt C) i (members (labelAt C i)) (recordAt C i .step)
   pub end : EndOk W (labelAt C (length C - 1))
 
 -- limits on stored refutations, as tests of the number of rows, of a tree's depth and of a split's value

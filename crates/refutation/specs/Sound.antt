@@ -109,18 +109,15 @@ module _ (D : Description) (A : Accepted D) (I : Interpretation) (M : Model D I)
       opened y hy p (inr u) = absurd (empty (cellOf y) (setOf-lt (length rows) (counts y)) p u y hy (known-true y hy))
 
 -- ---- one record, from the records before it
-module _ (D : Description) (A : Accepted D) (num : ℕ → ℕ) (i N : ℕ) (before : (j : ℕ) → j < i → Refuted D (members (num j))) where
-  abbrev L : Label
-  L = members N
-
+module _ (D : Description) (A : Accepted D) (num : ℕ → ℕ) (i : ℕ) (L : Label) (before : (j : ℕ) → j < i → Refuted D (members (num j))) where
   cited-refuted : (c : ℕ) (M : Label) → c < i → Within (members (num c)) M → Refuted D M
   cited-refuted c M h w I J x hx all = before c h I J x hx (λ l u. all l (w l u))
 
-  in-label : (I : Interpretation) (x : ℕ) (l : Literal) → AllTrue D I L x → So (inLabel D num i N l) → So (holds D I l x)
+  in-label : (I : Interpretation) (x : ℕ) (l : Literal) → AllTrue D I L x → So (inLabel D num i L l) → So (holds D I l x)
   in-label I x l all e = elim (or-cases (L l) _ e) [ inl h ↦ all l h | inr h ↦ rw (same-literal l (pos 0) h) (top-true D A I x) ]
 
   -- what a counting step shows
-  counting-sound : (K : Counting) → Named D num i N (counting K) → Applies D num i N (counting K) → Shows D num i N (counting K) → Ends D num i N (counting K)
+  counting-sound : (K : Counting) → Named D num i L (counting K) → Applies D num i L (counting K) → Shows D num i L (counting K) → Ends D num i L (counting K)
       → Refuted D L
   counting-sound K n a s e I M x hx all =
       closed-no-fillers _ _ (K .tree) e
@@ -146,7 +143,7 @@ module _ (D : Description) (A : Accepted D) (num : ℕ → ℕ) (i N : ℕ) (bef
           let w = cell c (cellAt (K .cells) c) refl o in
           before (w .0) (n .1 c g p (w .0) (w .1)) I M y hy (λ l u. t l (s c g p (w .0) (w .1) l u))
 
-  pub record-sound : (s : Step) → RecordOk D num i N s → Refuted D L
+  pub record-sound : (s : Step) → RecordOk D num i L s → Refuted D L
   record-sound (contradiction l) ok I M x hx all =
       opposite-true D I l x .0 (in-label I x (opposite l) all (ok .applies .1)) (in-label I x l all (ok .applies .0))
   record-sound (conjunction e c) ok I M x hx all =
@@ -173,12 +170,12 @@ module _ (D : Description) (A : Accepted D) (num : ℕ → ℕ) (i N : ℕ) (bef
 -- ---- the whole
 -- no element of any model has the label of any of the records
 pub records-sound : (D : Description) → Accepted D → (C : Refutation)
-    → ((i : ℕ) → i < length C → RecordOk D (labelAt C) i (labelAt C i) (recordAt C i .step)) → (n : ℕ) → n ≤ length C
+    → ((i : ℕ) → i < length C → RecordOk D (labelAt C) i (members (labelAt C i)) (recordAt C i .step)) → (n : ℕ) → n ≤ length C
     → (j : ℕ) → j < n → Refuted D (members (labelAt C j))
 records-sound D A C ok zero h = λ j l. absurd (omega arith)
 records-sound D A C ok (suc n) h =
     let r = records-sound D A C ok n (omega arith) in
-    up-to (λ j. Refuted D (members (labelAt C j))) n r (record-sound D A (labelAt C) n (labelAt C n) r (recordAt C n .step) (ok n h))
+    up-to (λ j. Refuted D (members (labelAt C j))) n r (record-sound D A (labelAt C) n (members (labelAt C n)) r (recordAt C n .step) (ok n h))
 
 -- after EMPTY no finite model of any size has an element with all that is wanted
 pub refutation-sound : (D : Description) → Accepted D → (W : List Literal) (C : Refutation) → Closes D W C

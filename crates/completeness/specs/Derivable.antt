@@ -1,0 +1,297 @@
+-- Derivable labels: every valid list of records can be extended to one with a record whose label lies within the label.
+-- Appending spoils no earlier record, so lists are threaded and never merged or renumbered. Each step is a rule for derivable labels.
+use Prim.Native.Nat.{ℕ, zero, suc, _+_, _-_, _^_, _≤_, _<_}
+use mathlib.Core.Path.{_≡_, refl, sym, _∙_, ap, subst, fun-ext}
+use mathlib.Core.Logic.{_↔_, _⊎_, inl, inr}
+use mathlib.Core.Bool.{Bool, true, false, not, _||_, false≢true}
+use mathlib.Core.List.{List, [], _∷_, _++_}
+use native.Mathlib.Omega.{arith}
+use lib.ListN.{length, getD}
+use lib.Pow.{pow-pos}
+use Rattle.logic.specs.Tests.{So, decide, so-not, so-false, or-l, or-r, same-test}
+use Rattle.logic.specs.Bounded.{up-to}
+use Rattle.logic.specs.Lists.{_∈_, length-snoc, at-snoc-old, at-snoc-new}
+use Rattle.counting.specs.Trees.{Tree, formed}
+use Rattle.counting.specs.TreeLaws.{tree-open}
+use Rattle.counting.specs.Rows.{Closed, limits}
+use Rattle.description.specs.Literals.{Literal, pos, neg, opposite, code, entryOf, Label, members, plus, Within, InTable, labelOf, members-labelOf, literal-same}
+use Rattle.description.specs.Descriptions.{both, Description}
+use Rattle.refutation.specs.Cells.{rowOf, isRow, rowsOf, bounds, Known, length-rows, length-bounds}
+use Rattle.refutation.specs.Records.{Cell, unshown, cited, isOpen, openAt, cellAt, literalAt, Counting, Step, contradiction, conjunction, disjunction, byRule, caseSplit, counting, Record, Refutation, recordAt, labelAt, Formed, RecordOk}
+
+-- every record keeps the rules, whatever the last label
+pub record Valid (D : Description) (C : Refutation) : Type 0 where
+  pub forms : (i : ℕ) → i < length C → Formed (recordAt C i .step)
+  pub records : (i : ℕ) → i < length C → RecordOk D (labelAt C) i (members (labelAt C i)) (recordAt C i .step)
+
+pub record Extends (C C′ : Refutation) : Type 0 where
+  pub longer : length C ≤ length C′
+  pub keeps : (i : ℕ) → i < length C → labelAt C′ i ≡ labelAt C i
+
+pub record Reaches (D : Description) (L : Label) (C : Refutation) : Type 0 where
+  pub list : Refutation
+  pub valid : Valid D list
+  pub extends : Extends C list
+  pub at : ℕ
+  pub at-in : at < length list
+  pub lies : Within (members (labelAt list at)) L
+
+abbrev pub Derivable : Description → Label → Type 0
+Derivable D L = (C : Refutation) → Valid D C → Reaches D L C
+
+extends-refl : (C : Refutation) → Extends C C
+extends-refl C = record { longer = omega arith; keeps = λ i h. refl }
+
+extends-trans : (C C′ C″ : Refutation) → Extends C C′ → Extends C′ C″ → Extends C C″
+extends-trans C C′ C″ a b = record { longer = omega arith; keeps = λ i h. b .keeps i (omega arith) ∙ a .keeps i h }
+
+pub derivable-mono : (D : Description) (L M : Label) → Within L M → Derivable D L → Derivable D M
+derivable-mono D L M w d C v = let r = d C v in
+    record { list = r .list; valid = r .valid; extends = r .extends; at = r .at; at-in = r .at-in; lies = λ l h. w l (r .lies l h) }
+
+-- a record looks only at the labels of earlier ones
+module _ (D : Description) (num num′ : ℕ → ℕ) (i : ℕ) (L : Label) (same : (j : ℕ) → j < i → num′ j ≡ num j) where
+  moved : (j : ℕ) (M : Label) → j < i → Within (members (num j)) M → Within (members (num′ j)) M
+  moved j M h w = rw (same j h) w
+
+  move : (s : Step) → RecordOk D num i L s → RecordOk D num′ i L s
+  move (contradiction l) o = record { in-table = o .in-table; named = o .named; applies = o .applies; shows = tt; ends = tt }
+  move (conjunction e c) o = let w = o .applies .1 in record {
+    in-table = o .in-table;
+    named = o .named;
+    applies = (o .applies .0, (w .0, w .1, w .2, moved c (plus (plus L (w .0)) (w .1)) (o .named .1) (w .3)));
+    shows = tt;
+    ends = tt;
+  }
+  move (disjunction e c d) o = let w = o .applies .1 in record {
+    in-table = o .in-table;
+    named = o .named;
+    applies = (o .applies .0, (
+      w .0,
+      w .1,
+      w .2,
+      (moved c (plus L (opposite (w .0))) (o .named .1 .0) (w .3 .0), moved d (plus L (opposite (w .1))) (o .named .1 .1) (w .3 .1)),
+    ));
+    shows = tt;
+    ends = tt;
+  }
+  move (byRule q c) o = record { in-table = o .in-table; named = o .named; applies = moved c (plus L (D .rule q)) (o .named .1) (o .applies); shows = tt; ends = tt }
+  move (caseSplit e c d) o = record {
+    in-table = o .in-table;
+    named = o .named;
+    applies = (moved c (plus L (pos e)) (o .named .1 .0) (o .applies .0), moved d (plus L (neg e)) (o .named .1 .1) (o .applies .1));
+    shows = tt;
+    ends = tt;
+  }
+  move (counting K) o = record {
+    in-table = o .in-table;
+    named = o .named;
+    applies = o .applies;
+    shows = λ c h p j q l u. o .shows c h p j q l (subst (λ n. So (members n l)) (same j (o .named .1 c h p j q)) u);
+    ends = o .ends;
+  }
+
+not-cited : (j : ℕ) → unshown ≡ cited j → ⊥
+not-cited j q = false≢true (sym (ap isOpen q))
+
+same-cite : (i j : ℕ) → cited i ≡ cited j → i ≡ j
+same-cite i j q = ap number q
+  where
+    number : Cell → ℕ
+    number unshown = 0
+    number (cited j) = j
+
+-- ---- one more record
+abbrev append : Refutation → ℕ → Step → Refutation
+append C N s = C ++ (record { label = N; step = s } ∷ [])
+
+module _ (C : Refutation) (N : ℕ) (s : Step) where
+  old-record : (i : ℕ) → i < length C → recordAt (append C N s) i ≡ recordAt C i
+  old-record i h = at-snoc-old C _ _ i h
+
+  new-record : recordAt (append C N s) (length C) ≡ record { label = N; step = s }
+  new-record = at-snoc-new C _ _
+
+append-valid : (D : Description) (C : Refutation) (N : ℕ) (s : Step) → Valid D C → Formed s → RecordOk D (labelAt C) (length C) (members N) s → Valid D (append C N s)
+append-valid D C N s v f o = record {
+  forms = λ i h. up-to (λ i. Formed (recordAt C′ i .step)) (length C)
+      (λ i h. rw (old-record C N s i h) (v .forms i h)) (rw (new-record C N s) f) i (rw (length-snoc C _) at h);
+  records = λ i h. up-to (λ i. RecordOk D (labelAt C′) i (members (labelAt C′ i)) (recordAt C′ i .step)) (length C) old new i (rw (length-snoc C _) at h);
+}
+  where
+    C′ : Refutation
+    C′ = append C N s
+
+    old : (i : ℕ) → i < length C → RecordOk D (labelAt C′) i (members (labelAt C′ i)) (recordAt C′ i .step)
+    old i h = subst (λ R. RecordOk D (labelAt C′) i (members (R .label)) (R .step)) (sym (old-record C N s i h))
+        (move D (labelAt C) (labelAt C′) i (members (labelAt C i)) (λ j g. ap (λ R. R .label) (old-record C N s j (omega arith))) (recordAt C i .step) (v .records i h))
+
+    new : RecordOk D (labelAt C′) (length C) (members (labelAt C′ (length C))) (recordAt C′ (length C) .step)
+    new = subst (λ R. RecordOk D (labelAt C′) (length C) (members (R .label)) (R .step)) (sym (new-record C N s))
+        (move D (labelAt C) (labelAt C′) (length C) (members N) (λ j g. ap (λ R. R .label) (old-record C N s j g)) s o)
+
+-- the label of a set of literals of the table is that set
+pub label-is : (n : ℕ) (L : Label) → InTable n L → members (labelOf n L) ≡ L
+label-is n L t = fun-ext (λ l. same-test _ _ (λ h. members-labelOf n L l .0 h .1) (λ h. members-labelOf n L l .1 (t l h, h)))
+
+-- ---- the steps
+module _ (D : Description) (L : Label) (t : InTable (D .entries) L) where
+  finish : (C : Refutation) (s : Step) (C′ : Refutation) → Valid D C′ → Extends C C′ → Formed s → RecordOk D (labelAt C′) (length C′) L s → Reaches D L C
+  finish C s C′ v x f o = record {
+    list = append C′ N s;
+    valid = append-valid D C′ N s v f (subst (λ M. RecordOk D (labelAt C′) (length C′) M s) (sym is) o);
+    extends = record {
+      longer = omega (arith, x .longer, length-snoc C′ (record { label = N; step = s }));
+      keeps = λ i h. ap (λ R. R .label) (old-record C′ N s i (omega (arith, x .longer))) ∙ x .keeps i h;
+    };
+    at = length C′;
+    at-in = omega (arith, length-snoc C′ (record { label = N; step = s }));
+    lies = λ l h. subst (λ M. So (M l)) (ap (λ R. members (R .label)) (new-record C′ N s) ∙ is) h;
+  }
+    where
+      N : ℕ
+      N = labelOf (D .entries) L
+
+      is : members N ≡ L
+      is = label-is (D .entries) L t
+
+  pub by-contradiction : (l : Literal) → So (L l) → So (L (opposite l)) → Derivable D L
+  by-contradiction l p q C v = finish C (contradiction l) C v (extends-refl C) tt
+      (record { in-table = t; named = t l p; applies = (or-l _ _ p, or-l _ _ q); shows = tt; ends = tt })
+
+  -- literal 1: literal 0 counts as in L
+  pub by-bottom : So (L (neg 0)) → Derivable D L
+  by-bottom p C v = finish C (contradiction (neg 0)) C v (extends-refl C) tt
+      (record { in-table = t; named = t (neg 0) p; applies = (or-l _ _ p, or-r (L (pos 0)) _ (literal-same (pos 0))); shows = tt; ends = tt })
+
+  pub by-conjunction : (e : ℕ) (a b : Literal) → D .entry e ≡ both a b → So (L (pos e)) → Derivable D (plus (plus L a) b) → Derivable D L
+  by-conjunction e a b q p d C v = let r = d C v in finish C (conjunction e (r .at)) (r .list) (r .valid) (r .extends) tt
+      (record { in-table = t; named = (t (pos e) p, r .at-in); applies = (p, (a, b, q, r .lies)); shows = tt; ends = tt })
+
+  pub by-rule : (i : ℕ) → i < D .rules → Derivable D (plus L (D .rule i)) → Derivable D L
+  by-rule i h d C v = let r = d C v in finish C (byRule i (r .at)) (r .list) (r .valid) (r .extends) tt
+      (record { in-table = t; named = (h, r .at-in); applies = r .lies; shows = tt; ends = tt })
+
+  -- two cites: the second list extends the first
+  record Two (C : Refutation) (M N : Label) : Type 0 where
+    list : Refutation
+    valid : Valid D list
+    extends : Extends C list
+    first : ℕ
+    first-in : first < length list
+    first-lies : Within (members (labelAt list first)) M
+    second : ℕ
+    second-in : second < length list
+    second-lies : Within (members (labelAt list second)) N
+
+  two : (C : Refutation) → Valid D C → (M N : Label) → Derivable D M → Derivable D N → Two C M N
+  two C v M N c d = let r = c C v in let s = d (r .list) (r .valid) in record {
+    list = s .list;
+    valid = s .valid;
+    extends = extends-trans C (r .list) (s .list) (r .extends) (s .extends);
+    first = r .at;
+    first-in = omega (arith, r .at-in, s .extends .longer);
+    first-lies = rw (s .extends .keeps (r .at) (r .at-in)) (r .lies);
+    second = s .at;
+    second-in = s .at-in;
+    second-lies = s .lies;
+  }
+
+  pub by-disjunction : (e : ℕ) (a b : Literal) → D .entry e ≡ both a b → So (L (neg e)) → Derivable D (plus L (opposite a)) → Derivable D (plus L (opposite b)) → Derivable D L
+  by-disjunction e a b q p c d C v = let r = two C v (plus L (opposite a)) (plus L (opposite b)) c d in
+      finish C (disjunction e (r .first) (r .second)) (r .list) (r .valid) (r .extends) tt (record {
+        in-table = t;
+        named = (t (neg e) p, (r .first-in, r .second-in));
+        applies = (p, (a, b, q, (r .first-lies, r .second-lies)));
+        shows = tt;
+        ends = tt;
+      })
+
+  pub by-cases : (e : ℕ) → e < D .entries → Derivable D (plus L (pos e)) → Derivable D (plus L (neg e)) → Derivable D L
+  by-cases e h c d C v = let r = two C v (plus L (pos e)) (plus L (neg e)) c d in
+      finish C (caseSplit e (r .first) (r .second)) (r .list) (r .valid) (r .extends) tt
+      (record { in-table = t; named = (h, (r .first-in, r .second-in)); applies = (r .first-lies, r .second-lies); shows = tt; ends = tt })
+
+  -- counting: one cite for each cell that is not open; cell i + 1 is number i of the list
+  module _ (open? : ℕ → Bool) (known : ℕ → Label) where
+    record Cells (C : Refutation) (m : ℕ) : Type 0 where
+      list : Refutation
+      valid : Valid D list
+      extends : Extends C list
+      cells : List Cell
+      long : length cells ≡ m
+      marks : (i : ℕ) → i < m → isOpen (getD cells i unshown) ≡ open? (suc i)
+      cites : (i : ℕ) → i < m → (j : ℕ) → getD cells i unshown ≡ cited j → (j < length list) × Within (members (labelAt list j)) (known (suc i))
+
+    no-cells : (C : Refutation) → Valid D C → Cells C 0
+    no-cells C v = record {
+      list = C;
+      valid = v;
+      extends = extends-refl C;
+      cells = [];
+      long = refl;
+      marks = λ i h. absurd (omega arith);
+      cites = λ i h. absurd (omega arith);
+    }
+
+    -- one cell more, after a list that extends the one so far
+    one-cell : (C : Refutation) (m : ℕ) (S : Cells C m) (C′ : Refutation) → Valid D C′ → Extends (S .list) C′ → (x : Cell) → isOpen x ≡ open? (suc m)
+        → ((j : ℕ) → x ≡ cited j → (j < length C′) × Within (members (labelAt C′ j)) (known (suc m))) → Cells C (suc m)
+    one-cell C m S C′ v e x o w = record {
+      list = C′;
+      valid = v;
+      extends = extends-trans C (S .list) C′ (S .extends) e;
+      cells = S .cells ++ (x ∷ []);
+      long = length-snoc (S .cells) x ∙ ap suc (S .long);
+      marks = up-to (λ i. isOpen (getD (S .cells ++ (x ∷ [])) i unshown) ≡ open? (suc i)) m (λ i h. rw (old i h) (S .marks i h)) (rw new o);
+      cites = up-to (λ i. (j : ℕ) → getD (S .cells ++ (x ∷ [])) i unshown ≡ cited j → (j < length C′) × Within (members (labelAt C′ j)) (known (suc i))) m
+          (λ i h j q. let u = S .cites i h j (sym (old i h) ∙ q) in (omega (arith, u .0, e .longer), rw (e .keeps j (u .0)) (u .1)))
+          (λ j q. w j (sym new ∙ q));
+    }
+      where
+        old : (i : ℕ) → i < m → getD (S .cells ++ (x ∷ [])) i unshown ≡ getD (S .cells) i unshown
+        old i h = at-snoc-old (S .cells) x unshown i (omega (arith, S .long))
+
+        new : getD (S .cells ++ (x ∷ [])) m unshown ≡ x
+        new = ap (λ k. getD (S .cells ++ (x ∷ [])) k unshown) (sym (S .long)) ∙ at-snoc-new (S .cells) x unshown
+
+    all-cells : (C : Refutation) → Valid D C → (m : ℕ) → ((i : ℕ) → i < m → (So (open? (suc i)) → ⊥) → Derivable D (known (suc i))) → Cells C m
+    all-cells C v zero d = no-cells C v
+    all-cells C v (suc m) d = go (all-cells C v m (λ i h. d i (omega arith))) (decide (open? (suc m)))
+      where
+        go : Cells C m → So (open? (suc m)) ⊎ (So (open? (suc m)) → ⊥) → Cells C (suc m)
+        go S (inl o) = one-cell C m S (S .list) (S .valid) (extends-refl (S .list)) unshown (sym o) (λ j q. absurd (not-cited j q))
+        go S (inr o) = let r = d m (omega arith) o (S .list) (S .valid) in
+            one-cell C m S (r .list) (r .valid) (r .extends) (cited (r .at)) (sym (so-false _ o))
+            (λ j q. let e = same-cite (r .at) j q in subst (λ j. (j < length (r .list)) × Within (members (labelAt (r .list) j)) (known (suc m))) e (r .at-in, r .lies))
+
+    pub by-counting : (lits : List Literal) → ((c : ℕ) (l : Literal) → So (known c l) → Known D L (rowsOf D lits) c l) → 1 ≤ length lits
+        → ((l : Literal) → l ∈ lits → So (L l) × So (isRow (rowOf D l)))
+        → ((j : ℕ) → j < length lits → suc j < length lits → code (literalAt lits j) < code (literalAt lits (suc j)))
+        → ((c : ℕ) → 0 < c → c < 2 ^ length lits → (So (open? c) → ⊥) → Derivable D (known c))
+        → (tree : Tree) → So (formed (length lits) tree) → Closed (bounds (rowsOf D lits)) open? tree → Derivable D L
+    by-counting lits shown some inside rising d tree f closed C v = finish C (counting K) (S .list) (S .valid) (S .extends)
+        (some, (omega (arith, S .long, pow-pos (length lits)), f))
+        (record {
+          in-table = t;
+          named = (λ l m. t l (inside l m .0), λ c h p j q. at c h p j q .0);
+          applies = (inside, rising);
+          shows = λ c h p j q l u. shown c l (at c h p j q .1 l u);
+          ends = tree-open (2 ^ length (bounds (rowsOf D lits))) open? (openAt (S .cells))
+              (λ c h p. opened c (rw (length-bounds (rowsOf D lits), length-rows D lits) at h) p) (limits (bounds (rowsOf D lits))) tree closed;
+        })
+      where
+        S : Cells C (2 ^ length lits - 1)
+        S = all-cells C v (2 ^ length lits - 1) (λ i h. d (suc i) (omega arith) (omega arith))
+
+        K : Counting
+        K = record { rows = lits; cells = S .cells; tree = tree }
+
+        -- a cell above 0 by its number in the list
+        at : (c : ℕ) → c < 2 ^ length lits → 0 < c → (j : ℕ) → cellAt (S .cells) c ≡ cited j → (j < length (S .list)) × Within (members (labelAt (S .list) j)) (known c)
+        at zero h p j q = absurd (omega arith)
+        at (suc i) h p j q = let e : suc i - 1 ≡ i = omega arith in S .cites i (omega arith) j (rw e at q)
+
+        opened : (c : ℕ) → c < 2 ^ length lits → 0 < c → openAt (S .cells) c ≡ open? c
+        opened zero h p = absurd (omega arith)
+        opened (suc i) h p = let e : suc i - 1 ≡ i = omega arith in rw e (S .marks i (omega arith))

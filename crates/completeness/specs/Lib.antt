@@ -1,0 +1,3 @@
+pub mod Derivable
+pub mod Types
+pub mod TypeRows

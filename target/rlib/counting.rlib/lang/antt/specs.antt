@@ -1,7 +1,0 @@
-pub mod Trees
-pub mod Rows
-pub mod TreeLaws
-pub mod Small
-pub mod Multipliers
-pub mod Complete
-pub mod Solutions

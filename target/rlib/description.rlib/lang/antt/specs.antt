@@ -1,4 +1,0 @@
-pub mod Literals
-pub mod Descriptions
-pub mod Roles
-pub mod Acceptance
