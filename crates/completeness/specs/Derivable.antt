@@ -6,8 +6,9 @@ use mathlib.Core.Logic.{_↔_, _⊎_, inl, inr}
 use mathlib.Core.Bool.{Bool, true, false, not, _||_, false≢true}
 use mathlib.Core.List.{List, [], _∷_, _++_}
 use native.Mathlib.Omega.{arith}
-use lib.ListN.{length, getD}
+use lib.ListN.{length, getD, take}
 use lib.Pow.{pow-pos}
+use lib.Seq.{getD-take, length-take-le}
 use Rattle.logic.specs.Tests.{So, decide, so-not, so-false, or-l, or-r, same-test}
 use Rattle.logic.specs.Bounded.{up-to}
 use Rattle.logic.specs.Lists.{_∈_, length-snoc, at-snoc-old, at-snoc-new}
@@ -129,6 +130,21 @@ append-valid D C N s v f o = record {
     new : RecordOk D (labelAt C′) (length C) (members (labelAt C′ (length C))) (recordAt C′ (length C) .step)
     new = subst (λ R. RecordOk D (labelAt C′) (length C) (members (R .label)) (R .step)) (sym (new-record C N s))
         (move D (labelAt C) (labelAt C′) (length C) (members N) (λ j g. ap (λ R. R .label) (old-record C N s j g)) s o)
+
+-- the first m records of a valid list are one
+pub cut-valid : (D : Description) (C : Refutation) (m : ℕ) → m ≤ length C → Valid D C → Valid D (take m C)
+cut-valid D C m h v = record {
+  forms = λ i l. subst (λ R. Formed (R .step)) (sym (same i (below i l))) (v .forms i (omega (arith, below i l)));
+  records = λ i l. subst (λ R. RecordOk D (labelAt (take m C)) i (members (R .label)) (R .step)) (sym (same i (below i l)))
+      (move D (labelAt C) (labelAt (take m C)) i (members (labelAt C i)) (λ j g. ap (λ R. R .label) (same j (omega (arith, g, below i l)))) (recordAt C i .step)
+      (v .records i (omega (arith, below i l))));
+}
+  where
+    below : (i : ℕ) → i < length (take m C) → i < m
+    below i l = omega (arith, l, length-take-le m C h)
+
+    same : (i : ℕ) → i < m → recordAt (take m C) i ≡ recordAt C i
+    same i l = getD-take m C i _ l
 
 -- the label of a set of literals of the table is that set
 pub label-is : (n : ℕ) (L : Label) → InTable n L → members (labelOf n L) ≡ L

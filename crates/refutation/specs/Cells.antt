@@ -58,10 +58,13 @@ unfoldable pub bounds : List Row → List Bound
 bounds [] = []
 bounds (R ∷ rows) = record { side = R .side; value = R .bound } ∷ bounds rows
 
+-- the roles of cell c: the ancestors of its rows' roles
+unfoldable pub cellRole : Description → List Row → ℕ → ℕ → Bool
+cellRole D rows c r = anyBelow (length rows) (λ i. has c i && ancestor D (rowAt rows i .role) r)
+
 module _ (D : Description) (L : Label) (rows : List Row) (c : ℕ) where
-  -- the roles of cell c: the ancestors of its rows' roles
-  unfoldable pub cellRole : ℕ → Bool
-  cellRole r = anyBelow (length rows) (λ i. has c i && ancestor D (rowAt rows i .role) r)
+  abbrev among : ℕ → Bool
+  among r = cellRole D rows c r
 
   -- what is known of every filler in cell c, under the label L: literal 0; the qualifiers of its rows; the opposite qualifier of
   -- each other row whose role is among its roles; l for each "every R l" in L with R among its roles, and then "every T l" for each
@@ -69,10 +72,10 @@ module _ (D : Description) (L : Label) (rows : List Row) (c : ℕ) where
   pub data Known : Literal → Type 0 where
     topmost : Known (pos 0)
     qualified : (i : ℕ) → i < length rows → So (has c i) → Known (rowAt rows i .qualifier)
-    denied : (i : ℕ) → i < length rows → So (not (has c i)) → So (cellRole (rowAt rows i .role)) → Known (opposite (rowAt rows i .qualifier))
-    passed : (e r : ℕ) (l : Literal) → e < D .entries → So (L (pos e)) → D .entry e ≡ every r l → So (cellRole r) → Known l
+    denied : (i : ℕ) → i < length rows → So (not (has c i)) → So (among (rowAt rows i .role)) → Known (opposite (rowAt rows i .qualifier))
+    passed : (e r : ℕ) (l : Literal) → e < D .entries → So (L (pos e)) → D .entry e ≡ every r l → So (among r) → Known l
     onward : (e r : ℕ) (l : Literal) (t f : ℕ) → e < D .entries → So (L (pos e)) → D .entry e ≡ every r l
-        → t < D .roles → So (D .transitive t) → So (cellRole t) → So (ancestor D t r)
+        → t < D .roles → So (D .transitive t) → So (among t) → So (ancestor D t r)
         → f < D .entries → every t l ≡ D .entry f → Known (pos f)
 
   -- the same as a test, phrase by phrase
@@ -80,14 +83,14 @@ module _ (D : Description) (L : Label) (rows : List Row) (c : ℕ) where
   isQualified l i = has c i && sameLiteral (rowAt rows i .qualifier) l
 
   abbrev isDenied : Literal → ℕ → Bool
-  isDenied l i = not (has c i) && (cellRole (rowAt rows i .role) && sameLiteral (opposite (rowAt rows i .qualifier)) l)
+  isDenied l i = not (has c i) && (among (rowAt rows i .role) && sameLiteral (opposite (rowAt rows i .qualifier)) l)
 
   abbrev isOnward : ℕ → Literal → Literal → ℕ → Bool
-  isOnward r q (pos f) t = (D .transitive t && (cellRole t && ancestor D t r)) && (ltb f (D .entries) && sameEntry (every t q) (D .entry f))
+  isOnward r q (pos f) t = (D .transitive t && (among t && ancestor D t r)) && (ltb f (D .entries) && sameEntry (every t q) (D .entry f))
   isOnward r q (neg f) t = false
 
   abbrev isPassed : Literal → ℕ → Bool
-  isPassed l e = L (pos e) && byKind false (λ a b. false) (λ r q. (cellRole r && sameLiteral q l) || anyBelow (D .roles) (isOnward r q l)) (λ r q n. false) (D .entry e)
+  isPassed l e = L (pos e) && byKind false (λ a b. false) (λ r q. (among r && sameLiteral q l) || anyBelow (D .roles) (isOnward r q l)) (λ r q n. false) (D .entry e)
 
   unfoldable pub known : Label
   known l = sameLiteral (pos 0) l
@@ -100,9 +103,9 @@ module _ (D : Description) (L : Label) (rows : List Row) (c : ℕ) where
   onward-known e r q he p qe (neg f) t ht h = absurd (false≢true h)
 
   passed-known : (l : Literal) (e : ℕ) (x : Entry) → e < D .entries → So (L (pos e)) → D .entry e ≡ x
-      → So (byKind false (λ a b. false) (λ r q. (cellRole r && sameLiteral q l) || anyBelow (D .roles) (isOnward r q l)) (λ r q n. false) x) → Known l
-  passed-known l e (every r q) he p qe h = elim (or-cases (cellRole r && sameLiteral q l) _ h) [
-    | inl u ↦ subst Known (same-literal q l (and-r (cellRole r) _ u)) (passed e r q he p qe (and-l _ _ u))
+      → So (byKind false (λ a b. false) (λ r q. (among r && sameLiteral q l) || anyBelow (D .roles) (isOnward r q l)) (λ r q n. false) x) → Known l
+  passed-known l e (every r q) he p qe h = elim (or-cases (among r && sameLiteral q l) _ h) [
+    | inl u ↦ subst Known (same-literal q l (and-r (among r) _ u)) (passed e r q he p qe (and-l _ _ u))
     | inr u ↦ let t = any-elim (D .roles) (isOnward r q l) u in onward-known e r q he p qe l (t .0) (t .1) (t .2)
   ]
   passed-known l e top he p qe h = absurd (false≢true h)
@@ -119,7 +122,7 @@ module _ (D : Description) (L : Label) (rows : List Row) (c : ℕ) where
           subst Known (same-literal _ l (and-r (has c (i .0)) _ (i .2))) (qualified (i .0) (i .1) (and-l _ _ (i .2)))
       | inr v ↦ elim (or-cases (anyBelow (length rows) (isDenied l)) _ v) [
         | inl w ↦ let i = any-elim (length rows) (isDenied l) w in let x = and-r (not (has c (i .0))) _ (i .2) in
-            subst Known (same-literal _ l (and-r (cellRole (rowAt rows (i .0) .role)) _ x)) (denied (i .0) (i .1) (and-l _ _ (i .2)) (and-l _ _ x))
+            subst Known (same-literal _ l (and-r (among (rowAt rows (i .0) .role)) _ x)) (denied (i .0) (i .1) (and-l _ _ (i .2)) (and-l _ _ x))
         | inr w ↦ let e = any-elim (D .entries) (isPassed l) w in
             passed-known l (e .0) (D .entry (e .0)) (e .1) (and-l _ _ (e .2)) refl (and-r (L (pos (e .0))) _ (e .2))
       ]
@@ -128,7 +131,7 @@ module _ (D : Description) (L : Label) (rows : List Row) (c : ℕ) where
 
   -- the last phrase, from an "every R q" of the label
   from-every : (l : Literal) (e r : ℕ) (q : Literal) → e < D .entries → So (L (pos e)) → D .entry e ≡ every r q
-      → So ((cellRole r && sameLiteral q l) || anyBelow (D .roles) (isOnward r q l)) → So (known l)
+      → So ((among r && sameLiteral q l) || anyBelow (D .roles) (isOnward r q l)) → So (known l)
   unfolding known
   from-every l e r q he p qe h = or-r (sameLiteral (pos 0) l) _ (or-r (anyBelow (length rows) (isQualified l)) _ (or-r (anyBelow (length rows) (isDenied l)) _
       (any-intro (D .entries) (isPassed l) e he (so-and (L (pos e)) _ p (rw qe h)))))
@@ -140,7 +143,7 @@ module _ (D : Description) (L : Label) (rows : List Row) (c : ℕ) where
   known-complete l (denied i h b r) = or-r (sameLiteral (pos 0) l) _ (or-r (anyBelow (length rows) (isQualified l)) _ (or-l _ _
       (any-intro (length rows) (isDenied l) i h (so-and _ _ b (so-and _ _ r (literal-same l))))))
   known-complete l (passed e r q he p qe cr) = from-every l e r q he p qe (or-l _ _ (so-and _ _ cr (literal-same l)))
-  known-complete l (onward e r q t f he p qe ht tr cr a hf qf) = from-every l e r q he p qe (or-r (cellRole r && sameLiteral q l) _
+  known-complete l (onward e r q t f he p qe ht tr cr a hf qf) = from-every l e r q he p qe (or-r (among r && sameLiteral q l) _
       (any-intro (D .roles) (isOnward r q l) t ht (so-and _ _ (so-and _ _ tr (so-and _ _ cr a)) (so-and _ _ (ltb-so f (D .entries) hf) (sameEntry↔ (every t q) (D .entry f) .1 qf)))))
 
   pub known↔ : (l : Literal) → So (known l) ↔ Known l

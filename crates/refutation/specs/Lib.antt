@@ -2,3 +2,4 @@ pub mod Cells
 pub mod Records
 pub mod RecordTests
 pub mod Sound
+pub mod Examples

@@ -72,7 +72,7 @@ module _ (D : Description) (A : Accepted D) (I : Interpretation) (M : Model D I)
   in-cell y i h = has-setOf (length rows) (counts y) i h
 
   -- a filler has the roles of its cell
-  has-role : (y r : ℕ) → y < I .size → So (cellRole D L rows (cellOf y) r) → So (I .role r x y)
+  has-role : (y r : ℕ) → y < I .size → So (cellRole D rows (cellOf y) r) → So (I .role r x y)
   unfolding cellRole counts
   has-role y r hy e =
       let w = any-elim (length rows) _ e in
