@@ -1,5 +1,5 @@
 -- Worked examples: tests 10 and 16 to 20 of refutations, each on both sides, their order, the rows, and what is known of a cell.
-use Prim.Native.Nat.{ℕ, zero, suc, _-_}
+use Prim.Native.Nat.{ℕ, zero, suc}
 use mathlib.Core.Path.{_≡_, refl}
 use mathlib.Core.Bool.{Bool, true, false}
 use mathlib.Core.List.{List, [], _∷_, _++_, map}
@@ -103,8 +103,348 @@ endTrials =
     ∷ stored limited (8 ∷ []) (p6-with (1 ∷ 1 ∷ []) (0 ∷ 2 ∷ [])) (refused 17 2)
     ∷ []
 
-trials-hold : map (λ t. refutationRefusal (t .limits) (t .given) (t .wanted) (t .list)) endTrials ≡ map (λ t. t .answer) endTrials
-unfolding endTrials topOnly limited p2 p6-with p6 refutationRefusal refuseFrom recordRefusal whenCounting ifCited namedTest appliesTest endLabel
+-- ---- steps 1 to 5
+-- names A (entry 1) and B (entry 2); 3 both(A, not A); 4 both(A, B); rule 0 is not A, rule 1 is A
+named : Description
+named = tableOf (under 0 ∷ []) (top ∷ name ∷ name ∷ both (lit 2) (lit 3) ∷ both (lit 2) (lit 4) ∷ []) (lit 0) (lit 3 ∷ lit 2 ∷ [])
+
+-- with every literal wanted, so that 20 is not at stake
+abbrev ofSteps : Refutation → Option Refusal → Trial
+ofSteps = stored named (0 ∷ 1 ∷ 2 ∷ 3 ∷ 4 ∷ 5 ∷ 6 ∷ 7 ∷ 8 ∷ 9 ∷ [])
+
+-- one record; and a record with that label and step after {2, 3}, {4, 5}, {0, 2, 3}, {2}, {3}, {0}, each refuted
+abbrev ofStep : List ℕ → Step → Option Refusal → Trial
+ofStep label step = ofSteps (noneHas label step ∷ [])
+
+abbrev ofNext : List ℕ → Step → Option Refusal → Trial
+ofNext label step = ofSteps (noneHas (2 ∷ 3 ∷ []) (clash 2) ∷ noneHas (4 ∷ 5 ∷ []) (clash 4) ∷ noneHas (0 ∷ 2 ∷ 3 ∷ []) (clash 3)
+    ∷ noneHas (2 ∷ []) (byRule 0 0) ∷ noneHas (3 ∷ []) (byRule 1 0) ∷ noneHas (0 ∷ []) (caseSplit 1 3 4) ∷ noneHas label step ∷ [])
+
+stepTrials : List Trial
+stepTrials =
+    -- step 1: l and its opposite are in L
+    ofStep (2 ∷ 3 ∷ []) (clash 2) none
+    ∷ ofStep (2 ∷ 3 ∷ []) (clash 3) none
+    ∷ ofStep (2 ∷ []) (clash 2) (refused 17 0)
+    ∷ ofStep (2 ∷ []) (clash 3) (refused 17 0)
+    ∷ ofStep (2 ∷ 5 ∷ []) (clash 2) (refused 17 0)
+    -- 0 counts as in L, 1 does not
+    ∷ ofStep (1 ∷ []) (clash 1) none
+    ∷ ofStep (1 ∷ []) (clash 0) none
+    ∷ ofStep [] (clash 0) (refused 17 0)
+    ∷ ofStep (0 ∷ []) (clash 1) (refused 17 0)
+    -- step 2: a "both" in L, not its complement, and no other kind; within L plus both literals
+    ∷ ofNext (6 ∷ []) (conjunction 3 0) none
+    ∷ ofNext [] (conjunction 3 0) (refused 17 6)
+    ∷ ofNext (7 ∷ []) (conjunction 3 0) (refused 17 6)
+    ∷ ofNext (2 ∷ 3 ∷ []) (conjunction 1 0) (refused 17 6)
+    ∷ ofNext (8 ∷ []) (conjunction 4 0) (refused 17 6)
+    ∷ ofNext (8 ∷ []) (conjunction 4 3) none
+    -- 0 does not count as in L here
+    ∷ ofNext (6 ∷ []) (conjunction 3 2) (refused 17 6)
+    ∷ ofNext (0 ∷ 6 ∷ []) (conjunction 3 2) none
+    -- step 3: the complement of a "both" in L; the first cite within L plus the opposite of the first, the second of the second
+    ∷ ofNext (2 ∷ 4 ∷ 9 ∷ []) (disjunction 4 0 1) none
+    ∷ ofNext (2 ∷ 4 ∷ 9 ∷ []) (disjunction 4 1 0) (refused 17 6)
+    ∷ ofNext (2 ∷ 4 ∷ 9 ∷ []) (disjunction 4 0 0) (refused 17 6)
+    ∷ ofNext (2 ∷ 4 ∷ 9 ∷ []) (disjunction 4 1 1) (refused 17 6)
+    ∷ ofNext (2 ∷ 4 ∷ 8 ∷ []) (disjunction 4 0 1) (refused 17 6)
+    ∷ ofNext (2 ∷ 3 ∷ 4 ∷ []) (disjunction 1 0 0) (refused 17 6)
+    ∷ ofNext (2 ∷ 4 ∷ 9 ∷ []) (disjunction 4 2 1) (refused 17 6)
+    ∷ ofNext (0 ∷ 2 ∷ 4 ∷ 9 ∷ []) (disjunction 4 2 1) none
+    -- step 4: within L plus that rule, not another
+    ∷ ofNext (2 ∷ []) (byRule 0 0) none
+    ∷ ofNext (2 ∷ []) (byRule 1 0) (refused 17 6)
+    ∷ ofNext (3 ∷ []) (byRule 1 0) none
+    ∷ ofNext (2 ∷ []) (byRule 0 2) (refused 17 6)
+    ∷ ofNext (0 ∷ 2 ∷ []) (byRule 0 2) none
+    -- step 5: the first cite within L plus 2e, the second within L plus 2e + 1; of any entry, top too
+    ∷ ofNext [] (caseSplit 1 3 4) none
+    ∷ ofNext [] (caseSplit 1 4 3) (refused 17 6)
+    ∷ ofNext [] (caseSplit 1 3 3) (refused 17 6)
+    ∷ ofNext [] (caseSplit 1 4 4) (refused 17 6)
+    ∷ ofNext (1 ∷ []) (caseSplit 0 5 5) (refused 17 6)
+    ∷ ofNext (0 ∷ []) (caseSplit 0 5 5) none
+    ∷ ofNext [] (caseSplit 1 5 5) (refused 17 6)
+    -- 16: a literal, an entry or a rule of the table
+    ∷ ofStep (2 ∷ 3 ∷ 9 ∷ []) (clash 2) none
+    ∷ ofStep (2 ∷ 3 ∷ 10 ∷ []) (clash 2) (refused 16 0)
+    ∷ ofStep (2 ∷ 3 ∷ []) (clash 9) (refused 17 0)
+    ∷ ofStep (2 ∷ 3 ∷ []) (clash 10) (refused 16 0)
+    ∷ ofNext (2 ∷ []) (conjunction 5 0) (refused 16 6)
+    ∷ ofNext (2 ∷ []) (disjunction 5 0 0) (refused 16 6)
+    ∷ ofNext (2 ∷ []) (byRule 2 0) (refused 16 6)
+    ∷ ofNext (2 ∷ 3 ∷ []) (caseSplit 4 0 0) none
+    ∷ ofNext (2 ∷ 3 ∷ []) (caseSplit 5 0 0) (refused 16 6)
+    -- 16: an earlier record, not the record itself or a later one, though its label lies within
+    ∷ ofNext (6 ∷ []) (conjunction 3 6) (refused 16 6)
+    ∷ ofNext (6 ∷ []) (conjunction 3 7) (refused 16 6)
+    ∷ ofNext (7 ∷ []) (disjunction 3 6 3) (refused 16 6)
+    ∷ ofNext (7 ∷ []) (disjunction 3 3 6) (refused 16 6)
+    ∷ ofNext (2 ∷ []) (byRule 0 6) (refused 16 6)
+    ∷ ofNext (2 ∷ []) (caseSplit 1 6 0) (refused 16 6)
+    ∷ ofNext (2 ∷ []) (caseSplit 1 3 6) (refused 16 6)
+    -- records rising: 17 of an earlier record before 16 of a later
+    ∷ ofSteps (noneHas (2 ∷ []) (clash 2) ∷ noneHas (2 ∷ []) (clash 10) ∷ []) (refused 17 0)
+    ∷ ofSteps (noneHas (2 ∷ 3 ∷ []) (clash 2) ∷ noneHas (2 ∷ []) (clash 10) ∷ noneHas (2 ∷ []) (clash 2) ∷ []) (refused 16 1)
+    ∷ []
+
+-- ---- step 6 in the table of P6: its form, its rows, its tree and the order
+abbrev ofCounts : (Description → List ℕ → Refutation → Option Refusal → Trial) → List ℕ → List ℕ → List Cell → Tree → Option Refusal → Trial
+ofCounts limits label rows cells tree = limits limited label (noneHas (1 ∷ []) (clash 1) ∷ noneHas label (count rows cells tree) ∷ [])
+
+-- P6's second record with another tree, and with other rows
+abbrev withTree : Tree → Option Refusal → Trial
+withTree = ofCounts stored (3 ∷ 4 ∷ []) (3 ∷ 4 ∷ []) (cited 0 ∷ cited 0 ∷ unshown ∷ [])
+
+abbrev withRows : List ℕ → List ℕ → Option Refusal → Trial
+withRows label rows = ofCounts stored label rows (cited 0 ∷ cited 0 ∷ unshown ∷ []) (leaf (1 ∷ 1 ∷ []))
+
+-- d splits of cell 3 above the last leaf, which every leaf closes without
+chain : ℕ → List ℕ → Tree
+chain zero multipliers = leaf multipliers
+chain (suc d) multipliers = split 3 0 (leaf (multipliers ++ (0 ∷ []))) (chain d (multipliers ++ (0 ∷ [])))
+
+-- a split of cell c at v, likewise
+splitAt : ℕ → ℕ → Tree
+splitAt c v = split c v (leaf (1 ∷ 1 ∷ 0 ∷ [])) (leaf (1 ∷ 1 ∷ 0 ∷ []))
+
+-- k rows, 4n + 3 cells: at most 1, at least 3, and others; the cells in row 1 and not in row 0 are shown empty
+quads : ℕ → List Cell
+quads zero = unshown ∷ cited 0 ∷ unshown ∷ []
+quads (suc n) = unshown ∷ cited 0 ∷ unshown ∷ unshown ∷ quads n
+
+many : Description
+many = tableOf (under 0 ∷ [])
+    (top ∷ atLeast 0 (lit 0) 2 ∷ atLeast 0 (lit 0) 3 ∷ atLeast 0 (lit 0) 4 ∷ atLeast 0 (lit 0) 5 ∷ atLeast 0 (lit 0) 6 ∷ atLeast 0 (lit 0) 7
+    ∷ atLeast 0 (lit 0) 8 ∷ []) (lit 0) []
+
+abbrev ofMany : (Description → List ℕ → Refutation → Option Refusal → Trial) → List ℕ → ℕ → List ℕ → Option Refusal → Trial
+ofMany limits rows n multipliers = limits many rows (noneHas (1 ∷ []) (clash 1) ∷ noneHas rows (count rows (quads n) (leaf multipliers)) ∷ [])
+
+countTrials : List Trial
+countTrials =
+    -- 10: no row
+    ofCounts stored [] [] [] (leaf []) (refused 10 1)
+    ∷ ofCounts lifted [] [] [] (leaf []) (refused 10 1)
+    ∷ ofCounts stored (4 ∷ []) (4 ∷ []) (unshown ∷ []) (leaf (1 ∷ [])) (refused 19 1)
+    -- 10: a cell too few, a cell too many
+    ∷ ofCounts lifted (3 ∷ 4 ∷ []) (3 ∷ 4 ∷ []) (cited 0 ∷ cited 0 ∷ []) (leaf (1 ∷ 1 ∷ [])) (refused 10 1)
+    ∷ ofCounts lifted (3 ∷ 4 ∷ []) (3 ∷ 4 ∷ []) (cited 0 ∷ cited 0 ∷ unshown ∷ unshown ∷ []) (leaf (1 ∷ 1 ∷ [])) (refused 10 1)
+    -- 10: a multiplier too few, too many, and the same under a split
+    ∷ ofCounts lifted (3 ∷ 4 ∷ []) (3 ∷ 4 ∷ []) (cited 0 ∷ cited 0 ∷ unshown ∷ []) (leaf (1 ∷ [])) (refused 10 1)
+    ∷ withTree (leaf (1 ∷ 1 ∷ 0 ∷ [])) (refused 10 1)
+    ∷ withTree (split 3 0 (leaf (1 ∷ 1 ∷ [])) (leaf (1 ∷ 1 ∷ 0 ∷ []))) (refused 10 1)
+    ∷ withTree (split 3 0 (leaf (1 ∷ 1 ∷ 0 ∷ [])) (leaf (1 ∷ 1 ∷ 0 ∷ 0 ∷ []))) (refused 10 1)
+    ∷ withTree (splitAt 3 0) none
+    -- 10: eight splits above a leaf, and nine; lifted, nine are allowed
+    ∷ withTree (chain 8 (1 ∷ 1 ∷ [])) none
+    ∷ withTree (chain 9 (1 ∷ 1 ∷ [])) (refused 10 1)
+    ∷ ofCounts lifted (3 ∷ 4 ∷ []) (3 ∷ 4 ∷ []) (cited 0 ∷ cited 0 ∷ unshown ∷ []) (chain 9 (1 ∷ 1 ∷ [])) none
+    -- 10: six rows, and seven; lifted, seven are allowed
+    ∷ ofMany stored (3 ∷ 4 ∷ 6 ∷ 8 ∷ 10 ∷ 12 ∷ []) 15 (1 ∷ 1 ∷ 0 ∷ 0 ∷ 0 ∷ 0 ∷ []) none
+    ∷ ofMany stored (3 ∷ 4 ∷ 6 ∷ 8 ∷ 10 ∷ 12 ∷ 14 ∷ []) 31 (1 ∷ 1 ∷ 0 ∷ 0 ∷ 0 ∷ 0 ∷ 0 ∷ []) (refused 10 1)
+    ∷ ofMany lifted (3 ∷ 4 ∷ 6 ∷ 8 ∷ 10 ∷ 12 ∷ 14 ∷ []) 31 (1 ∷ 1 ∷ 0 ∷ 0 ∷ 0 ∷ 0 ∷ 0 ∷ []) none
+    -- 17: rows rise strictly
+    ∷ withRows (3 ∷ 4 ∷ []) (3 ∷ 4 ∷ []) none
+    ∷ withRows (3 ∷ 4 ∷ []) (4 ∷ 3 ∷ []) (refused 17 1)
+    ∷ withRows (3 ∷ 4 ∷ []) (4 ∷ 4 ∷ []) (refused 17 1)
+    ∷ ofCounts stored (2 ∷ 3 ∷ 4 ∷ []) (2 ∷ 4 ∷ 3 ∷ []) (quads 1) (leaf (1 ∷ 1 ∷ 1 ∷ [])) (refused 17 1)
+    -- 17: each is in L, and gives a row: "both", its complement and top do not
+    ∷ withRows (3 ∷ 4 ∷ 7 ∷ []) (3 ∷ 4 ∷ []) none
+    ∷ withRows (3 ∷ 7 ∷ []) (3 ∷ 4 ∷ []) (refused 17 1)
+    ∷ withRows (4 ∷ 7 ∷ []) (3 ∷ 4 ∷ []) (refused 17 1)
+    ∷ withRows (3 ∷ 6 ∷ []) (3 ∷ 6 ∷ []) (refused 17 1)
+    ∷ withRows (3 ∷ 7 ∷ []) (3 ∷ 7 ∷ []) (refused 17 1)
+    ∷ withRows (0 ∷ 4 ∷ []) (0 ∷ 4 ∷ []) (refused 17 1)
+    -- 19: an upper row's bound is n - 1, so at least 2 and not at least 2 close, at least 2 and not at least 3 do not
+    ∷ withRows (2 ∷ 3 ∷ []) (2 ∷ 3 ∷ []) none
+    ∷ withRows (2 ∷ 5 ∷ []) (2 ∷ 5 ∷ []) (refused 19 1)
+    -- 19: the gap is above zero, and no open cell has more lower than upper multipliers
+    ∷ withTree (leaf (2 ∷ 1 ∷ [])) none
+    ∷ withTree (leaf (3 ∷ 1 ∷ [])) (refused 19 1)
+    ∷ withTree (leaf (4 ∷ 1 ∷ [])) (refused 19 1)
+    ∷ withTree (leaf (1 ∷ 2 ∷ [])) (refused 19 1)
+    -- 19: an open cell is split, not one shown empty, not cell 0, none past the last
+    ∷ withTree (splitAt 3 1) none
+    ∷ withTree (splitAt 2 1) (refused 19 1)
+    ∷ withTree (splitAt 0 1) (refused 19 1)
+    ∷ withTree (splitAt 4 1) (refused 19 1)
+    -- 19: at a value of 0 to 1,000; lifted, any
+    ∷ withTree (splitAt 3 1000) none
+    ∷ withTree (splitAt 3 1001) (refused 19 1)
+    ∷ ofCounts lifted (3 ∷ 4 ∷ []) (3 ∷ 4 ∷ []) (cited 0 ∷ cited 0 ∷ unshown ∷ []) (splitAt 3 1001) none
+    -- 19: first the half with at most v, then that with at least v + 1
+    ∷ withTree (split 3 1 (leaf (0 ∷ 1 ∷ 1 ∷ [])) (leaf (1 ∷ 0 ∷ 1 ∷ []))) none
+    ∷ withTree (split 3 1 (leaf (1 ∷ 0 ∷ 1 ∷ [])) (leaf (0 ∷ 1 ∷ 1 ∷ []))) (refused 19 1)
+    ∷ withTree (split 3 2 (leaf (0 ∷ 1 ∷ 1 ∷ [])) (leaf (1 ∷ 0 ∷ 1 ∷ []))) none
+    ∷ withTree (split 3 3 (leaf (0 ∷ 1 ∷ 1 ∷ [])) (leaf (1 ∷ 0 ∷ 1 ∷ []))) (refused 19 1)
+    ∷ withTree (split 3 0 (leaf (0 ∷ 1 ∷ 1 ∷ [])) (leaf (1 ∷ 0 ∷ 1 ∷ []))) (refused 19 1)
+    -- 19: both halves close
+    ∷ withTree (split 3 1 (leaf (0 ∷ 1 ∷ 1 ∷ [])) (leaf (0 ∷ 0 ∷ 1 ∷ []))) (refused 19 1)
+    ∷ withTree (split 3 1 (leaf (0 ∷ 0 ∷ 1 ∷ [])) (leaf (1 ∷ 0 ∷ 1 ∷ []))) (refused 19 1)
+    -- 16: a cell cites the record itself, or a later one; a row literal past the table
+    ∷ ofCounts stored (3 ∷ 4 ∷ []) (3 ∷ 4 ∷ []) (cited 0 ∷ cited 1 ∷ unshown ∷ []) (leaf (1 ∷ 1 ∷ [])) (refused 16 1)
+    ∷ ofCounts stored (3 ∷ 4 ∷ []) (3 ∷ 4 ∷ []) (cited 2 ∷ cited 0 ∷ unshown ∷ []) (leaf (1 ∷ 1 ∷ [])) (refused 16 1)
+    ∷ ofCounts stored (3 ∷ 4 ∷ []) (3 ∷ 4 ∷ []) (cited 0 ∷ cited 0 ∷ cited 1 ∷ []) (leaf (1 ∷ 1 ∷ [])) (refused 16 1)
+    ∷ withRows (3 ∷ 4 ∷ []) (3 ∷ 10 ∷ []) (refused 16 1)
+    -- 18: cell 3 is not known to lack top
+    ∷ ofCounts stored (3 ∷ 4 ∷ []) (3 ∷ 4 ∷ []) (cited 0 ∷ cited 0 ∷ cited 0 ∷ []) (leaf (1 ∷ 1 ∷ [])) (refused 18 1)
+    -- within a record 16 comes before 17, 17 before 18, 18 before 19
+    ∷ ofCounts stored (3 ∷ 4 ∷ []) (4 ∷ 3 ∷ []) (cited 0 ∷ cited 0 ∷ cited 1 ∷ []) (leaf (1 ∷ 1 ∷ [])) (refused 16 1)
+    ∷ ofCounts stored (3 ∷ 4 ∷ []) (4 ∷ 3 ∷ []) (cited 0 ∷ cited 0 ∷ cited 0 ∷ []) (leaf (1 ∷ 1 ∷ [])) (refused 17 1)
+    ∷ ofCounts stored (3 ∷ 4 ∷ []) (3 ∷ 4 ∷ []) (cited 0 ∷ cited 0 ∷ cited 0 ∷ []) (leaf (1 ∷ 0 ∷ [])) (refused 18 1)
+    ∷ ofCounts stored (3 ∷ 4 ∷ []) (4 ∷ 3 ∷ []) (cited 0 ∷ cited 0 ∷ unshown ∷ []) (leaf (1 ∷ 0 ∷ [])) (refused 17 1)
+    -- 10 over all records comes first, and of these the first
+    ∷ stored limited [] (noneHas (2 ∷ []) (clash 10) ∷ noneHas [] (count [] [] (leaf [])) ∷ noneHas [] (count [] [] (leaf [])) ∷ []) (refused 10 1)
+    ∷ []
+
+-- ---- the rows
+-- names, "both" and "every" give none; "at least 3" and its complement, "at least 1" and its complement, the complement of "every"
+rowsTable : Description
+rowsTable = tableOf (under 0 ∷ under 0 ∷ [])
+    (top ∷ name ∷ both (lit 2) (lit 3) ∷ every 1 (lit 2) ∷ atLeast 1 (lit 3) 3 ∷ atLeast 0 (lit 2) 1 ∷ []) (lit 0) []
+
+rows-found : map (rowOf rowsTable) (lits (0 ∷ 1 ∷ 2 ∷ 3 ∷ 4 ∷ 5 ∷ 6 ∷ 7 ∷ 8 ∷ 9 ∷ 10 ∷ 11 ∷ [])) ≡ (
+    none ∷ none ∷ none ∷ none ∷ none ∷ none
+    ∷ none ∷ some (record { role = 1; qualifier = lit 3; side = lower; bound = 1 })
+    ∷ some (record { role = 1; qualifier = lit 3; side = lower; bound = 3 }) ∷ some (record { role = 1; qualifier = lit 3; side = upper; bound = 2 })
+    ∷ some (record { role = 0; qualifier = lit 2; side = lower; bound = 1 }) ∷ some (record { role = 0; qualifier = lit 2; side = upper; bound = 0 })
+    ∷ [])
+unfolding rowsTable literal
+rows-found = refl
+
+-- ---- what is known of a cell
+-- the literals known of cell c in a step with that label and those rows, and what they should be
+record KnownTrial : Type 0 where
+  pub found : ℕ
+  pub literals : List ℕ
+
+abbrev knows : List Role → List Entry → List ℕ → List ℕ → ℕ → List ℕ → KnownTrial
+knows roles entries label rows c literals = record {
+  found = knownLabel (tableOf roles entries (lit 0) []) (λ _. 0) 0 (set label) (lits rows) c;
+  literals = literals;
+}
+
+-- names A and B; 6: at least 1 on role 0 has A; 9: none on role 1 has B; 10: every filler of role 1 has not B; 12: A and not B
+counted : List Entry
+counted = top ∷ name ∷ name ∷ atLeast 0 (lit 2) 1 ∷ atLeast 1 (lit 4) 1 ∷ every 1 (lit 5) ∷ both (lit 2) (lit 5) ∷ []
+
+-- name A; 4: every filler of role 1 has A; 6: of role 0; 9: there is a filler of role 0; 11: of role 1
+passing : List Entry
+passing = top ∷ name ∷ every 1 (lit 2) ∷ every 0 (lit 2) ∷ every 0 (lit 1) ∷ every 1 (lit 1) ∷ []
+
+-- two roles apart; 0 under 1; 1 under 0; 0 under 1 by way of 2
+abbrev apart : List Role
+apart = under 0 ∷ under 0 ∷ []
+
+abbrev zeroUnder : List Role
+zeroUnder = under 2 ∷ under 0 ∷ []
+
+abbrev oneUnder : List Role
+oneUnder = under 0 ∷ under 1 ∷ []
+
+abbrev byTwo : List Role
+byTwo = under 4 ∷ under 0 ∷ under 2 ∷ []
+
+-- 0 under 1 and transitive; apart and 0 transitive; 0 under 1, which is transitive
+abbrev transitiveZero : List Role
+transitiveZero = transitiveUnder 2 ∷ under 0 ∷ []
+
+abbrev transitiveApart : List Role
+transitiveApart = transitiveUnder 0 ∷ under 0 ∷ []
+
+abbrev transitiveOne : List Role
+transitiveOne = under 2 ∷ transitiveUnder 0 ∷ []
+
+knownTrials : List KnownTrial
+knownTrials =
+    -- literal 0 and the qualifiers of the cell's rows; nothing of a row on a role that is not among the cell's
+    knows apart counted (6 ∷ 9 ∷ []) (6 ∷ 9 ∷ []) 1 (0 ∷ 2 ∷ [])
+    ∷ knows apart counted (6 ∷ 9 ∷ []) (6 ∷ 9 ∷ []) 2 (0 ∷ 4 ∷ [])
+    ∷ knows apart counted (6 ∷ 9 ∷ []) (6 ∷ 9 ∷ []) 3 (0 ∷ 2 ∷ 4 ∷ [])
+    -- the opposite qualifier of the other row, where its role is among the cell's: upward, not downward
+    ∷ knows zeroUnder counted (6 ∷ 9 ∷ []) (6 ∷ 9 ∷ []) 1 (0 ∷ 2 ∷ 5 ∷ [])
+    ∷ knows zeroUnder counted (6 ∷ 9 ∷ []) (6 ∷ 9 ∷ []) 2 (0 ∷ 4 ∷ [])
+    ∷ knows zeroUnder counted (6 ∷ 9 ∷ []) (6 ∷ 9 ∷ []) 3 (0 ∷ 2 ∷ 4 ∷ [])
+    ∷ knows oneUnder counted (6 ∷ 9 ∷ []) (6 ∷ 9 ∷ []) 1 (0 ∷ 2 ∷ [])
+    ∷ knows oneUnder counted (6 ∷ 9 ∷ []) (6 ∷ 9 ∷ []) 2 (0 ∷ 3 ∷ 4 ∷ [])
+    ∷ knows byTwo counted (6 ∷ 9 ∷ []) (6 ∷ 9 ∷ []) 1 (0 ∷ 2 ∷ 5 ∷ [])
+    -- the rows are those of the step, not all of the label
+    ∷ knows zeroUnder counted (6 ∷ 9 ∷ []) (6 ∷ []) 1 (0 ∷ 2 ∷ [])
+    -- "every R l" in the label passes l where R is among the cell's roles, itself or as an ancestor
+    ∷ knows apart counted (6 ∷ 10 ∷ []) (6 ∷ []) 1 (0 ∷ 2 ∷ [])
+    ∷ knows zeroUnder counted (6 ∷ 10 ∷ []) (6 ∷ []) 1 (0 ∷ 2 ∷ 5 ∷ [])
+    ∷ knows byTwo counted (6 ∷ 10 ∷ []) (6 ∷ []) 1 (0 ∷ 2 ∷ 5 ∷ [])
+    ∷ knows oneUnder counted (6 ∷ 10 ∷ []) (6 ∷ []) 1 (0 ∷ 2 ∷ [])
+    ∷ knows apart counted (8 ∷ 10 ∷ []) (8 ∷ []) 1 (0 ∷ 4 ∷ 5 ∷ [])
+    -- not where it is not in the label, or its complement is
+    ∷ knows zeroUnder counted (6 ∷ []) (6 ∷ []) 1 (0 ∷ 2 ∷ [])
+    ∷ knows zeroUnder counted (6 ∷ 11 ∷ []) (6 ∷ []) 1 (0 ∷ 2 ∷ [])
+    -- onward "every T l", for a transitive T among the cell's roles with ancestor R, of the same literal
+    ∷ knows transitiveZero passing (4 ∷ 9 ∷ []) (9 ∷ []) 1 (0 ∷ 2 ∷ 6 ∷ [])
+    ∷ knows transitiveZero passing (6 ∷ 9 ∷ []) (9 ∷ []) 1 (0 ∷ 2 ∷ 6 ∷ [])
+    ∷ knows transitiveOne passing (4 ∷ 9 ∷ []) (9 ∷ []) 1 (0 ∷ 2 ∷ 4 ∷ [])
+    ∷ knows transitiveOne passing (4 ∷ 11 ∷ []) (11 ∷ []) 1 (0 ∷ 2 ∷ 4 ∷ [])
+    -- not where T is not transitive, is not under R, or is not among the cell's roles
+    ∷ knows zeroUnder passing (4 ∷ 9 ∷ []) (9 ∷ []) 1 (0 ∷ 2 ∷ [])
+    ∷ knows zeroUnder passing (6 ∷ 9 ∷ []) (9 ∷ []) 1 (0 ∷ 2 ∷ [])
+    ∷ knows transitiveApart passing (4 ∷ 9 ∷ []) (9 ∷ []) 1 (0 ∷ [])
+    ∷ knows transitiveZero passing (4 ∷ 11 ∷ []) (11 ∷ []) 1 (0 ∷ 2 ∷ [])
+    ∷ knows transitiveOne passing (6 ∷ 9 ∷ []) (9 ∷ []) 1 (0 ∷ 2 ∷ [])
+    -- the qualifier of the complement of "every": the opposite
+    ∷ knows apart passing (7 ∷ []) (7 ∷ []) 1 (0 ∷ 3 ∷ [])
+    ∷ []
+
+known-found : map (λ t. t .found) knownTrials ≡ map (λ t. set (t .literals)) knownTrials
+unfolding knownTrials counted passing
+  rowsOf known cellRole ancestor closure sameEntry literal members labelOf with has setOf anyBelow
+known-found = refl
+
+-- ---- 18, of what is known
+-- rule 0: not both A and not B, so no element has {2, 5}; then at least one on role 0 with A, and on role 1 none with B
+abbrev ofRoles : List Role → Option Refusal → Trial
+ofRoles roles = stored (tableOf roles counted (lit 0) (lit 13 ∷ [])) (6 ∷ 9 ∷ []) (
+    noneHas (2 ∷ 3 ∷ []) (clash 2) ∷ noneHas (4 ∷ 5 ∷ []) (clash 4) ∷ noneHas (2 ∷ 5 ∷ 13 ∷ []) (disjunction 6 0 1) ∷ noneHas (2 ∷ 5 ∷ []) (byRule 0 2)
+    ∷ noneHas (6 ∷ 9 ∷ []) (count (6 ∷ 9 ∷ []) (cited 3 ∷ unshown ∷ unshown ∷ []) (leaf (1 ∷ 1 ∷ [])))
+    ∷ [])
+
+-- some filler of role 0 that has A, and every one has not A: a record {2, 3} with one more literal
+abbrev ofKnown : List ℕ → Option Refusal → Trial
+ofKnown cite = stored (tableOf apart (top ∷ name ∷ atLeast 0 (lit 2) 1 ∷ every 0 (lit 3) ∷ []) (lit 0) []) (4 ∷ 6 ∷ []) (
+    noneHas cite (clash 2) ∷ noneHas (4 ∷ 6 ∷ []) (count (4 ∷ []) (cited 0 ∷ []) (leaf (1 ∷ []))) ∷ [])
+
+cellTrials : List Trial
+cellTrials =
+    -- the opposite qualifier: where role 0 is under role 1, where they are apart, where 1 is under 0
+    ofRoles zeroUnder none
+    ∷ ofRoles apart (refused 18 4)
+    ∷ ofRoles oneUnder (refused 18 4)
+    -- literal 0 is known
+    ∷ ofKnown (2 ∷ 3 ∷ []) none
+    ∷ ofKnown (0 ∷ 2 ∷ 3 ∷ []) none
+    ∷ ofKnown (1 ∷ 2 ∷ 3 ∷ []) (refused 18 1)
+    ∷ ofKnown (2 ∷ 3 ∷ 6 ∷ []) (refused 18 1)
+    ∷ []
+
+-- ---- all of them
+trials : List Trial
+trials = endTrials ++ (stepTrials ++ (countTrials ++ cellTrials))
+
+trials-hold : map (λ t. refutationRefusal (t .limits) (t .given) (t .wanted) (t .list)) trials ≡ map (λ t. t .answer) trials
+unfolding trials endTrials stepTrials countTrials cellTrials topOnly limited p2 p6-with p6 named many quads chain splitAt counted
+  refutationRefusal refuseFrom recordRefusal whenCounting ifCited namedTest appliesTest endLabel
   formed depth leafTest treeTest rowsOf bounds known cellRole ancestor closure sameEntry isBoth
   literal members adding labelOf narrow within with has setOf each allBelow anyBelow
 trials-hold = refl
+
+-- ---- so P6's class is empty: no model has an element with literal 8
+limited-accepted : Accepted limited
+unfolding limited descriptionRefusal allBelow anyBelow narrow entryTest literal ifLeast ifEvery simple ancestor closure has sameEntry
+limited-accepted = accepted↔ limited (omega arith) (omega arith) .0 refl
+
+p6-empty : (I : Interpretation) → Model limited I → Satisfies limited (lit 8 ∷ []) I → ⊥
+unfolding limited p6-with p6 refutationRefusal refuseFrom recordRefusal whenCounting ifCited namedTest appliesTest endLabel
+  formed depth leafTest treeTest rowsOf bounds known cellRole ancestor closure sameEntry isBoth
+  literal members adding labelOf narrow within with has setOf each allBelow anyBelow
+p6-empty = refutation-sound limited limited-accepted (lit 8 ∷ []) p6 (lifted-refutation↔ limited limited-accepted (lit 8 ∷ []) p6 (omega arith) .0 refl)

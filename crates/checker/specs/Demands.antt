@@ -1,0 +1,66 @@
+-- The owner's demands over lifted evidence (no bytes; limits as a parameter), with the root alone wanted. docs/THEOREMS.md is the map.
+use Prim.Native.Nat.{ℕ, _^_, _≤_, _<_}
+use mathlib.Core.Path.{_≡_}
+use mathlib.Core.Logic.{_↔_, _⊎_}
+use mathlib.Core.Bool.{Bool}
+use mathlib.Core.List.{List, [], _∷_, List·Memᴰ·cases-cons}
+use mathlib.Core.Logic.{inl, inr}
+use mathlib.Core.Option.{none}
+use mathlib.Core.Path.{sym, subst}
+use lib.ListN.{length}
+use Rattle.logic.specs.Lists.{_∈_}
+use Rattle.counting.specs.Rows.{Solves, Fillers}
+use Rattle.counting.specs.Solutions.{fillers}
+use Rattle.description.specs.Literals.{Literal, entryOf}
+use Rattle.description.specs.Descriptions.{Description}
+use Rattle.description.specs.Acceptance.{Accepted}
+use Rattle.interpretation.specs.Meaning.{Interpretation}
+use Rattle.interpretation.specs.Models.{Model, Satisfies}
+use Rattle.graph.specs.Graphs.{Graph, GraphLimits, GraphFits, Keeps}
+use Rattle.graph.specs.GraphTests.{graphRefusal, graph↔}
+use Rattle.graph.specs.Line.{line}
+use Rattle.graph.specs.Sound.{graph-sound}
+use Rattle.refutation.specs.Cells.{bounds, rowsOf}
+use Rattle.refutation.specs.Records.{Refutation, RefutationLimits, RefutationFits, Closes, openAt, Counting}
+use Rattle.refutation.specs.RecordTests.{refutationRefusal, refutation↔}
+use Rattle.refutation.specs.Sound.{refutation-sound}
+use Rattle.completeness.specs.Dichotomy.{exactly-one, small-graph}
+
+-- what is wanted of a plain question: the root
+abbrev pub wanted : Description → List Literal
+wanted D = D .root ∷ []
+
+wanted-in : (D : Description) → Accepted D → (l : Literal) → l ∈ wanted D → entryOf l < D .entries
+wanted-in D A l m = elim (List·Memᴰ·cases-cons m) [ inl e ↦ subst (λ k. entryOf k < D .entries) (sym e) (A .root-in) | inr t ↦ elim t [ ] ]
+
+module _ (D : Description) (A : Accepted D) where
+  -- demand 2, "exactly when": a graph is refused by none of 10 to 15 exactly if it keeps the rules, within the limits
+  pub inhabited-when : (lim : GraphLimits) (G : Graph) → 1 ≤ length G → (graphRefusal lim D (wanted D) G ≡ none) ↔ (Keeps D (wanted D) G × GraphFits lim G)
+  inhabited-when lim G h = graph↔ lim D (wanted D) G h
+
+  -- and a refutation by none of 10 and 16 to 20 exactly if it closes, within the limits
+  pub empty-when : (lim : RefutationLimits) (C : Refutation) → 1 ≤ length C
+      → (refutationRefusal lim D (wanted D) C ≡ none) ↔ (Closes D (wanted D) C × RefutationFits lim C)
+  empty-when lim C h = refutation↔ lim D A (wanted D) C h
+
+  -- demand 2, "true": after INHABITED the line of the graph is a finite model with the class
+  pub inhabited-true : (G : Graph) → Keeps D (wanted D) G → Model D (line D G) × Satisfies D (wanted D) (line D G)
+  inhabited-true G g = graph-sound D A (wanted D) G g
+
+  -- and after EMPTY no finite model of any size has it
+  pub empty-true : (C : Refutation) → Closes D (wanted D) C → (I : Interpretation) → Model D I → Satisfies D (wanted D) I → ⊥
+  empty-true C c I M s = refutation-sound D A (wanted D) C c I M s
+
+  -- demand 2, the counting sentence, for the rows and open cells of a counting step (and, in fillers, for any rows and open cells)
+  pub counting-fillers : (K : Counting)
+      → ((x : ℕ → ℕ) × Solves (bounds (rowsOf D (K .rows))) (openAt (K .cells)) x) ↔ Fillers (bounds (rowsOf D (K .rows))) (openAt (K .cells))
+  counting-fillers K = fillers (bounds (rowsOf D (K .rows))) (openAt (K .cells))
+
+  -- demand 3: exactly one of two holds
+  pub one-of-two : (((G : Graph) × Keeps D (wanted D) G) ⊎ ((C : Refutation) × Closes D (wanted D) C))
+      × (((G : Graph) × Keeps D (wanted D) G) → ((C : Refutation) × Closes D (wanted D) C) → ⊥)
+  one-of-two = exactly-one D A (wanted D) (wanted-in D A)
+
+  -- and wherever a graph keeps the rules, one does that has at most 2^entries nodes
+  pub few-nodes : (G : Graph) → Keeps D (wanted D) G → (H : Graph) × Keeps D (wanted D) H × (length H ≤ 2 ^ D .entries)
+  few-nodes G g = small-graph D A (wanted D) (wanted-in D A) G g

@@ -1,0 +1,1 @@
+// Definitions and theorems only, in specs/: the owner's demands, as theorems.
