@@ -5,7 +5,7 @@ use mathlib.Core.Logic.{_↔_}
 use mathlib.Core.Bool.{Bool, true, false, _&&_, false≢true}
 use mathlib.Core.Option.{Option, none, some, Option·some-injective}
 use lib.Dec.{eqb}
-use Rattle.logic.specs.Tests.{So, so-and, and-l, and-r, so-eqb, eqb-so}
+use Rattle.logic.specs.Tests.{So, so-and, eqb-so, reading}
 use Rattle.logic.specs.Sets.{has}
 use Rattle.description.specs.Literals.{Literal, code, literal, literal-code}
 
@@ -61,17 +61,18 @@ fieldsOf (both a b) = record { kind = 2; role = 0; first = code a; second = code
 fieldsOf (every r l) = record { kind = 3; role = r; first = code l; second = 0; number = 0 }
 fieldsOf (atLeast r l n) = record { kind = 4; role = r; first = code l; second = 0; number = n }
 
-entryFrom : ℕ → ℕ → ℕ → ℕ → ℕ → Entry
+-- the entry that five fields give; a kind above 4 is read as 4
+unfoldable pub entryFrom : ℕ → ℕ → ℕ → ℕ → ℕ → Entry
 entryFrom zero r a b n = top
 entryFrom (suc zero) r a b n = name
 entryFrom (suc (suc zero)) r a b n = both (literal a) (literal b)
 entryFrom (suc (suc (suc zero))) r a b n = every r (literal a)
 entryFrom (suc (suc (suc (suc k)))) r a b n = atLeast r (literal a) n
 
-abbrev entryOfFields : Fields → Entry
+abbrev pub entryOfFields : Fields → Entry
 entryOfFields F = entryFrom (F .kind) (F .role) (F .first) (F .second) (F .number)
 
-entry-back : (x : Entry) → entryOfFields (fieldsOf x) ≡ x
+pub entry-back : (x : Entry) → entryOfFields (fieldsOf x) ≡ x
 unfolding entryFrom
 entry-back top = refl
 entry-back name = refl
@@ -80,20 +81,31 @@ entry-back (every r l) = rw (literal-code l)
 entry-back (atLeast r l n) = rw (literal-code l)
 
 -- all fields are the same
-unfoldable pub sameEntry : Entry → Entry → Bool
-sameEntry x y = eqb (fieldsOf x .kind) (fieldsOf y .kind) && (eqb (fieldsOf x .role) (fieldsOf y .role)
-    && (eqb (fieldsOf x .first) (fieldsOf y .first) && (eqb (fieldsOf x .second) (fieldsOf y .second) && eqb (fieldsOf x .number) (fieldsOf y .number))))
+abbrev pub sameFields : Fields → Fields → Bool
+sameFields F G = eqb (F .kind) (G .kind) && (eqb (F .role) (G .role)
+    && (eqb (F .first) (G .first) && (eqb (F .second) (G .second) && eqb (F .number) (G .number))))
 
-same-fields : (F G : Fields) → F .kind ≡ G .kind → F .role ≡ G .role → F .first ≡ G .first → F .second ≡ G .second → F .number ≡ G .number
-    → entryOfFields F ≡ entryOfFields G
-same-fields F G k r a b n = rw (k, r, a, b, n)
+unfoldable pub sameEntry : Entry → Entry → Bool
+sameEntry x y = sameFields (fieldsOf x) (fieldsOf y)
+
+pub sameFields↔ : (F G : Fields) → So (sameFields F G) ↔ (F ≡ G)
+sameFields↔ F G = (
+  λ h. let t = simp reading at h in same (t .0) (t .1 .0) (t .1 .1 .0) (t .1 .1 .1 .0) (t .1 .1 .1 .1),
+  λ e. subst (λ H. So (sameFields F H)) e (search (so-and, eqb-so)),
+)
+  where
+    made : ℕ → ℕ → ℕ → ℕ → ℕ → Fields
+    made k r a b n = record { kind = k; role = r; first = a; second = b; number = n }
+
+    same : F .kind ≡ G .kind → F .role ≡ G .role → F .first ≡ G .first → F .second ≡ G .second → F .number ≡ G .number
+        → made (F .kind) (F .role) (F .first) (F .second) (F .number) ≡ made (G .kind) (G .role) (G .first) (G .second) (G .number)
+    same k r a b n = rw (k, r, a, b, n)
 
 pub sameEntry↔ : (x y : Entry) → So (sameEntry x y) ↔ (x ≡ y)
 unfolding sameEntry
 sameEntry↔ x y = (
-  λ h. sym (entry-back x) ∙ same-fields (fieldsOf x) (fieldsOf y) (so-eqb _ _ (search (and-l, and-r))) (so-eqb _ _ (search (and-l, and-r)))
-      (so-eqb _ _ (search (and-l, and-r))) (so-eqb _ _ (search (and-l, and-r))) (so-eqb _ _ (search (and-l, and-r))) ∙ entry-back y,
-  λ e. subst (λ z. So (sameEntry x z)) e (search (so-and, eqb-so)),
+  λ h. sym (entry-back x) ∙ ap entryOfFields (sameFields↔ (fieldsOf x) (fieldsOf y) .0 h) ∙ entry-back y,
+  λ e. sameFields↔ (fieldsOf x) (fieldsOf y) .1 (ap fieldsOf e),
 )
 
 -- ---- what an entry gives by its kind: in turn for kinds 0 and 1, for "both", for "every", for "at least"

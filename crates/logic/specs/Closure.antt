@@ -4,7 +4,8 @@ use mathlib.Core.Path.{_≡_, refl}
 use mathlib.Core.Logic.{_↔_, _⊎_, inl, inr}
 use mathlib.Core.Bool.{Bool, _&&_, _||_}
 use native.Mathlib.Omega.{arith}
-use Rattle.logic.specs.Tests.{So, so-and, and-l, and-r, or-l, or-r, or-cases}
+use lib.Dec.{eqb}
+use Rattle.logic.specs.Tests.{So, so-and, and-l, and-r, or-l, or-r, or-cases, so-eqb, same-test}
 use Rattle.logic.specs.Bounded.{below-cases}
 
 unfoldable pub closure : ℕ → (ℕ → ℕ → Bool) → ℕ → ℕ → Bool
@@ -75,3 +76,20 @@ closure↔ k R x y = (
   closure-ind k R k (omega arith) (Steps k R) (λ x y e. last e) (λ x y z h p q. steps-trans k R h p q) x y,
   steps-closure k R x y,
 )
+
+-- with each number joined to itself first, the closure is that of the relation, or the number itself
+pub closure-own : (k : ℕ) (R : ℕ → ℕ → Bool) (x y : ℕ) → closure k (λ i j. eqb i j || R i j) x y ≡ (eqb x y || closure k R x y)
+closure-own k R x y = same-test _ _
+    (closure-ind k own k (omega arith) (λ x y. So (eqb x y || closure k R x y))
+    (λ x y e. elim (or-cases (eqb x y) (R x y) e) [ inl p ↦ or-l _ _ p | inr p ↦ or-r (eqb x y) _ (closure-base k R x y p) ])
+    (λ x y z h p q. elim (or-cases (eqb x y) _ p) [
+      | inl a ↦ rw (so-eqb x y a) q
+      | inr a ↦ elim (or-cases (eqb y z) _ q) [ inl b ↦ rw (so-eqb y z b) at p | inr b ↦ or-r (eqb x z) _ (closure-trans k R x y z h a b) ]
+    ]) x y)
+    (λ e. elim (or-cases (eqb x y) _ e) [
+      | inl p ↦ closure-base k own x y (or-l _ _ p)
+      | inr p ↦ closure-ind k R k (omega arith) (λ x y. So (closure k own x y)) (λ x y r. closure-base k own x y (or-r (eqb x y) _ r)) (closure-trans k own) x y p
+    ])
+  where
+    own : ℕ → ℕ → Bool
+    own i j = eqb i j || R i j

@@ -1,7 +1,7 @@
 -- Laws of sets as numbers, for any width: membership decides a set, and each operation is told by its members.
 use Prim.Native.Nat.{ℕ, zero, suc, _+_, _*_, _/_, _%_, _^_, _<_, _≤_, min, max}
 use mathlib.Core.Path.{_≡_, refl, _∙_, sym, ap, subst}
-use mathlib.Core.Bool.{Bool, true, false}
+use mathlib.Core.Bool.{Bool, true, false, _||_}
 use mathlib.Core.Logic.{_↔_, _⊎_, inl, inr}
 use native.Mathlib.Omega.{arith}
 use native.Mathlib.Decide.{decLe, decLt}
@@ -10,7 +10,7 @@ use lib.Arith.{digits-mod}
 use lib.Pow.{pow-lt, pow-mono, pow-pos}
 use lib.Dec.{eqb, ltb}
 use lib.Bits.{bitAnd, bitOr, and-step, and-shr, or-step, or-shr, and-le-l}
-use Rattle.logic.specs.Tests.{So, decide, so-eqb, eqb-so, so-false, same-test, so-ltb, ltb-so, eqb↔}
+use Rattle.logic.specs.Tests.{So, so-eqb, so-false, or-l, or-r, or-cases, so-ltb, ltb-so, eqb↔}
 use Rattle.logic.specs.Sums.{only, only-le, only-on, only-off}
 use Rattle.logic.specs.Sets.{has, nonempty, narrow, within, with, setOf}
 
@@ -163,6 +163,22 @@ or-members a b i = (
   where
     e : digit (bitOr a b) i ≡ max (digit a i) (digit b i)
     e = rw (or-shr a b i) (low-or (a / 2 ^ i) (b / 2 ^ i))
+
+pub setOf-cong : (k : ℕ) (p q : ℕ → Bool) → ((i : ℕ) → i < k → p i ≡ q i) → setOf k p ≡ setOf k q
+setOf-cong k p q h = set-ext (setOf k p) (setOf k q)
+    (λ i u. let w = setOf↔ k p i .0 u in setOf↔ k q i .1 (w .0, sym (h i (w .0)) ∙ w .1))
+    (λ i u. let w = setOf↔ k q i .0 u in setOf↔ k p i .1 (w .0, h i (w .0) ∙ w .1))
+
+pub or-setOf : (k : ℕ) (p q : ℕ → Bool) → bitOr (setOf k p) (setOf k q) ≡ setOf k (λ i. p i || q i)
+or-setOf k p q = set-ext _ _
+    (λ i u. elim (or-members (setOf k p) (setOf k q) i .0 u) [
+      | inl v ↦ (let w = setOf↔ k p i .0 v in setOf↔ k (λ i. p i || q i) i .1 (w .0, or-l _ _ (w .1)))
+      | inr v ↦ (let w = setOf↔ k q i .0 v in setOf↔ k (λ i. p i || q i) i .1 (w .0, or-r (p i) _ (w .1)))
+    ])
+    (λ i u. let w = setOf↔ k (λ i. p i || q i) i .0 u in or-members (setOf k p) (setOf k q) i .1 (elim (or-cases (p i) (q i) (w .1)) [
+      | inl v ↦ inl (setOf↔ k p i .1 (w .0, v))
+      | inr v ↦ inr (setOf↔ k q i .1 (w .0, v))
+    ]))
 
 pub within↔ : (a b : ℕ) → So (within a b) ↔ ((i : ℕ) → So (has a i) → So (has b i))
 unfolding within

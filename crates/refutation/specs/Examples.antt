@@ -1,7 +1,6 @@
 -- Worked examples: tests 10 and 16 to 20 of refutations, each on both sides, their order, the rows, and what is known of a cell.
 use Prim.Native.Nat.{ℕ, zero, suc}
 use mathlib.Core.Path.{_≡_, refl}
-use mathlib.Core.Bool.{Bool, true, false}
 use mathlib.Core.List.{List, [], _∷_, _++_, map}
 use mathlib.Core.Option.{Option, none, some}
 use native.Mathlib.Omega.{arith}
@@ -18,8 +17,9 @@ use Rattle.description.specs.Acceptance.{entryTest, descriptionRefusal, Accepte
 use Rattle.description.specs.Examples.{Role, under, transitiveUnder, tableOf, lit}
 use Rattle.interpretation.specs.Meaning.{Interpretation}
 use Rattle.interpretation.specs.Models.{Model, Satisfies}
-use Rattle.refutation.specs.Cells.{Row, rowOf, rowsOf, bounds, cellRole, known}
-use Rattle.refutation.specs.Records.{Cell, unshown, cited, Step, contradiction, conjunction, disjunction, byRule, caseSplit, counting, Record, Refutation, RefutationLimits}
+use Rattle.refutation.specs.Cells.{rowOf, rowsOf, bounds, cellRole, known}
+use Rattle.refutation.specs.Records.{Cell, unshown, cited, Step, contradiction, conjunction, disjunction, byRule, caseSplit, counting}
+use Rattle.refutation.specs.Records.{Record, Refutation, RefutationLimits}
 use Rattle.refutation.specs.RecordTests.{anyRefutation, storedRefutation, whenCounting, ifCited, namedTest, appliesTest, knownLabel, recordRefusal}
 use Rattle.refutation.specs.RecordTests.{endLabel, refutationRefusal, lifted-refutation↔}
 use Rattle.refutation.specs.Sound.{refutation-sound}
@@ -53,11 +53,14 @@ record Trial : Type 0 where
 abbrev refused : ℕ → ℕ → Option Refusal
 refused number place = some (record { number = number; place = place })
 
+abbrev trial : RefutationLimits → Description → List ℕ → Refutation → Option Refusal → Trial
+trial lim D wanted C answer = record { limits = lim; given = D; wanted = lits wanted; list = C; answer = answer }
+
 abbrev stored : Description → List ℕ → Refutation → Option Refusal → Trial
-stored D wanted C answer = record { limits = storedRefutation; given = D; wanted = lits wanted; list = C; answer = answer }
+stored = trial storedRefutation
 
 abbrev lifted : Description → List ℕ → Refutation → Option Refusal → Trial
-lifted D wanted C answer = record { limits = anyRefutation; given = D; wanted = lits wanted; list = C; answer = answer }
+lifted = trial anyRefutation
 
 -- ---- P2, P6, P7 and the end
 topOnly : Description
@@ -190,15 +193,21 @@ stepTrials =
     ∷ []
 
 -- ---- step 6 in the table of P6: its form, its rows, its tree and the order
-abbrev ofCounts : (Description → List ℕ → Refutation → Option Refusal → Trial) → List ℕ → List ℕ → List Cell → Tree → Option Refusal → Trial
-ofCounts limits label rows cells tree = limits limited label (noneHas (1 ∷ []) (clash 1) ∷ noneHas label (count rows cells tree) ∷ [])
+abbrev ofCounts : RefutationLimits → List ℕ → List ℕ → List Cell → Tree → Option Refusal → Trial
+ofCounts lim label rows cells tree = trial lim limited label (noneHas (1 ∷ []) (clash 1) ∷ noneHas label (count rows cells tree) ∷ [])
 
--- P6's second record with another tree, and with other rows
-abbrev withTree : Tree → Option Refusal → Trial
-withTree = ofCounts stored (3 ∷ 4 ∷ []) (3 ∷ 4 ∷ []) (cited 0 ∷ cited 0 ∷ unshown ∷ [])
-
+-- P6's second record with other rows, with other cells and tree, with another tree
 abbrev withRows : List ℕ → List ℕ → Option Refusal → Trial
-withRows label rows = ofCounts stored label rows (cited 0 ∷ cited 0 ∷ unshown ∷ []) (leaf (1 ∷ 1 ∷ []))
+withRows label rows = ofCounts storedRefutation label rows (cited 0 ∷ cited 0 ∷ unshown ∷ []) (leaf (1 ∷ 1 ∷ []))
+
+abbrev withCells : List Cell → Tree → Option Refusal → Trial
+withCells = ofCounts storedRefutation (3 ∷ 4 ∷ []) (3 ∷ 4 ∷ [])
+
+abbrev withTree : Tree → Option Refusal → Trial
+withTree = withCells (cited 0 ∷ cited 0 ∷ unshown ∷ [])
+
+abbrev withLiftedTree : Tree → Option Refusal → Trial
+withLiftedTree = ofCounts anyRefutation (3 ∷ 4 ∷ []) (3 ∷ 4 ∷ []) (cited 0 ∷ cited 0 ∷ unshown ∷ [])
 
 -- d splits of cell 3 above the last leaf, which every leaf closes without
 chain : ℕ → List ℕ → Tree
@@ -209,30 +218,22 @@ chain (suc d) multipliers = split 3 0 (leaf (multipliers ++ (0 ∷ []))) (chain 
 splitAt : ℕ → ℕ → Tree
 splitAt c v = split c v (leaf (1 ∷ 1 ∷ 0 ∷ [])) (leaf (1 ∷ 1 ∷ 0 ∷ []))
 
--- k rows, 4n + 3 cells: at most 1, at least 3, and others; the cells in row 1 and not in row 0 are shown empty
+-- 4n + 3 cells, of which those in row 1 and not in row 0 are shown empty
 quads : ℕ → List Cell
 quads zero = unshown ∷ cited 0 ∷ unshown ∷ []
 quads (suc n) = unshown ∷ cited 0 ∷ unshown ∷ unshown ∷ quads n
 
-many : Description
-many = tableOf (under 0 ∷ [])
-    (top ∷ atLeast 0 (lit 0) 2 ∷ atLeast 0 (lit 0) 3 ∷ atLeast 0 (lit 0) 4 ∷ atLeast 0 (lit 0) 5 ∷ atLeast 0 (lit 0) 6 ∷ atLeast 0 (lit 0) 7
-    ∷ atLeast 0 (lit 0) 8 ∷ []) (lit 0) []
-
-abbrev ofMany : (Description → List ℕ → Refutation → Option Refusal → Trial) → List ℕ → ℕ → List ℕ → Option Refusal → Trial
-ofMany limits rows n multipliers = limits many rows (noneHas (1 ∷ []) (clash 1) ∷ noneHas rows (count rows (quads n) (leaf multipliers)) ∷ [])
-
 countTrials : List Trial
 countTrials =
-    -- 10: no row
-    ofCounts stored [] [] [] (leaf []) (refused 10 1)
-    ∷ ofCounts lifted [] [] [] (leaf []) (refused 10 1)
-    ∷ ofCounts stored (4 ∷ []) (4 ∷ []) (unshown ∷ []) (leaf (1 ∷ [])) (refused 19 1)
+    -- 10: no row; one is enough for the form
+    ofCounts storedRefutation [] [] [] (leaf []) (refused 10 1)
+    ∷ ofCounts anyRefutation [] [] [] (leaf []) (refused 10 1)
+    ∷ ofCounts storedRefutation (4 ∷ []) (4 ∷ []) (unshown ∷ []) (leaf (1 ∷ [])) (refused 19 1)
     -- 10: a cell too few, a cell too many
-    ∷ ofCounts lifted (3 ∷ 4 ∷ []) (3 ∷ 4 ∷ []) (cited 0 ∷ cited 0 ∷ []) (leaf (1 ∷ 1 ∷ [])) (refused 10 1)
-    ∷ ofCounts lifted (3 ∷ 4 ∷ []) (3 ∷ 4 ∷ []) (cited 0 ∷ cited 0 ∷ unshown ∷ unshown ∷ []) (leaf (1 ∷ 1 ∷ [])) (refused 10 1)
+    ∷ withCells (cited 0 ∷ cited 0 ∷ []) (leaf (1 ∷ 1 ∷ [])) (refused 10 1)
+    ∷ withCells (cited 0 ∷ cited 0 ∷ unshown ∷ unshown ∷ []) (leaf (1 ∷ 1 ∷ [])) (refused 10 1)
     -- 10: a multiplier too few, too many, and the same under a split
-    ∷ ofCounts lifted (3 ∷ 4 ∷ []) (3 ∷ 4 ∷ []) (cited 0 ∷ cited 0 ∷ unshown ∷ []) (leaf (1 ∷ [])) (refused 10 1)
+    ∷ withLiftedTree (leaf (1 ∷ [])) (refused 10 1)
     ∷ withTree (leaf (1 ∷ 1 ∷ 0 ∷ [])) (refused 10 1)
     ∷ withTree (split 3 0 (leaf (1 ∷ 1 ∷ [])) (leaf (1 ∷ 1 ∷ 0 ∷ []))) (refused 10 1)
     ∷ withTree (split 3 0 (leaf (1 ∷ 1 ∷ 0 ∷ [])) (leaf (1 ∷ 1 ∷ 0 ∷ 0 ∷ []))) (refused 10 1)
@@ -240,16 +241,12 @@ countTrials =
     -- 10: eight splits above a leaf, and nine; lifted, nine are allowed
     ∷ withTree (chain 8 (1 ∷ 1 ∷ [])) none
     ∷ withTree (chain 9 (1 ∷ 1 ∷ [])) (refused 10 1)
-    ∷ ofCounts lifted (3 ∷ 4 ∷ []) (3 ∷ 4 ∷ []) (cited 0 ∷ cited 0 ∷ unshown ∷ []) (chain 9 (1 ∷ 1 ∷ [])) none
-    -- 10: six rows, and seven; lifted, seven are allowed
-    ∷ ofMany stored (3 ∷ 4 ∷ 6 ∷ 8 ∷ 10 ∷ 12 ∷ []) 15 (1 ∷ 1 ∷ 0 ∷ 0 ∷ 0 ∷ 0 ∷ []) none
-    ∷ ofMany stored (3 ∷ 4 ∷ 6 ∷ 8 ∷ 10 ∷ 12 ∷ 14 ∷ []) 31 (1 ∷ 1 ∷ 0 ∷ 0 ∷ 0 ∷ 0 ∷ 0 ∷ []) (refused 10 1)
-    ∷ ofMany lifted (3 ∷ 4 ∷ 6 ∷ 8 ∷ 10 ∷ 12 ∷ 14 ∷ []) 31 (1 ∷ 1 ∷ 0 ∷ 0 ∷ 0 ∷ 0 ∷ 0 ∷ []) none
+    ∷ withLiftedTree (chain 9 (1 ∷ 1 ∷ [])) none
     -- 17: rows rise strictly
     ∷ withRows (3 ∷ 4 ∷ []) (3 ∷ 4 ∷ []) none
     ∷ withRows (3 ∷ 4 ∷ []) (4 ∷ 3 ∷ []) (refused 17 1)
     ∷ withRows (3 ∷ 4 ∷ []) (4 ∷ 4 ∷ []) (refused 17 1)
-    ∷ ofCounts stored (2 ∷ 3 ∷ 4 ∷ []) (2 ∷ 4 ∷ 3 ∷ []) (quads 1) (leaf (1 ∷ 1 ∷ 1 ∷ [])) (refused 17 1)
+    ∷ ofCounts storedRefutation (2 ∷ 3 ∷ 4 ∷ []) (2 ∷ 4 ∷ 3 ∷ []) (quads 1) (leaf (1 ∷ 1 ∷ 1 ∷ [])) (refused 17 1)
     -- 17: each is in L, and gives a row: "both", its complement and top do not
     ∷ withRows (3 ∷ 4 ∷ 7 ∷ []) (3 ∷ 4 ∷ []) none
     ∷ withRows (3 ∷ 7 ∷ []) (3 ∷ 4 ∷ []) (refused 17 1)
@@ -273,7 +270,7 @@ countTrials =
     -- 19: at a value of 0 to 1,000; lifted, any
     ∷ withTree (splitAt 3 1000) none
     ∷ withTree (splitAt 3 1001) (refused 19 1)
-    ∷ ofCounts lifted (3 ∷ 4 ∷ []) (3 ∷ 4 ∷ []) (cited 0 ∷ cited 0 ∷ unshown ∷ []) (splitAt 3 1001) none
+    ∷ withLiftedTree (splitAt 3 1001) none
     -- 19: first the half with at most v, then that with at least v + 1
     ∷ withTree (split 3 1 (leaf (0 ∷ 1 ∷ 1 ∷ [])) (leaf (1 ∷ 0 ∷ 1 ∷ []))) none
     ∷ withTree (split 3 1 (leaf (1 ∷ 0 ∷ 1 ∷ [])) (leaf (0 ∷ 1 ∷ 1 ∷ []))) (refused 19 1)
@@ -284,19 +281,36 @@ countTrials =
     ∷ withTree (split 3 1 (leaf (0 ∷ 1 ∷ 1 ∷ [])) (leaf (0 ∷ 0 ∷ 1 ∷ []))) (refused 19 1)
     ∷ withTree (split 3 1 (leaf (0 ∷ 0 ∷ 1 ∷ [])) (leaf (1 ∷ 0 ∷ 1 ∷ []))) (refused 19 1)
     -- 16: a cell cites the record itself, or a later one; a row literal past the table
-    ∷ ofCounts stored (3 ∷ 4 ∷ []) (3 ∷ 4 ∷ []) (cited 0 ∷ cited 1 ∷ unshown ∷ []) (leaf (1 ∷ 1 ∷ [])) (refused 16 1)
-    ∷ ofCounts stored (3 ∷ 4 ∷ []) (3 ∷ 4 ∷ []) (cited 2 ∷ cited 0 ∷ unshown ∷ []) (leaf (1 ∷ 1 ∷ [])) (refused 16 1)
-    ∷ ofCounts stored (3 ∷ 4 ∷ []) (3 ∷ 4 ∷ []) (cited 0 ∷ cited 0 ∷ cited 1 ∷ []) (leaf (1 ∷ 1 ∷ [])) (refused 16 1)
+    ∷ withCells (cited 0 ∷ cited 1 ∷ unshown ∷ []) (leaf (1 ∷ 1 ∷ [])) (refused 16 1)
+    ∷ withCells (cited 2 ∷ cited 0 ∷ unshown ∷ []) (leaf (1 ∷ 1 ∷ [])) (refused 16 1)
+    ∷ withCells (cited 0 ∷ cited 0 ∷ cited 1 ∷ []) (leaf (1 ∷ 1 ∷ [])) (refused 16 1)
     ∷ withRows (3 ∷ 4 ∷ []) (3 ∷ 10 ∷ []) (refused 16 1)
     -- 18: cell 3 is not known to lack top
-    ∷ ofCounts stored (3 ∷ 4 ∷ []) (3 ∷ 4 ∷ []) (cited 0 ∷ cited 0 ∷ cited 0 ∷ []) (leaf (1 ∷ 1 ∷ [])) (refused 18 1)
+    ∷ withCells (cited 0 ∷ cited 0 ∷ cited 0 ∷ []) (leaf (1 ∷ 1 ∷ [])) (refused 18 1)
     -- within a record 16 comes before 17, 17 before 18, 18 before 19
-    ∷ ofCounts stored (3 ∷ 4 ∷ []) (4 ∷ 3 ∷ []) (cited 0 ∷ cited 0 ∷ cited 1 ∷ []) (leaf (1 ∷ 1 ∷ [])) (refused 16 1)
-    ∷ ofCounts stored (3 ∷ 4 ∷ []) (4 ∷ 3 ∷ []) (cited 0 ∷ cited 0 ∷ cited 0 ∷ []) (leaf (1 ∷ 1 ∷ [])) (refused 17 1)
-    ∷ ofCounts stored (3 ∷ 4 ∷ []) (3 ∷ 4 ∷ []) (cited 0 ∷ cited 0 ∷ cited 0 ∷ []) (leaf (1 ∷ 0 ∷ [])) (refused 18 1)
-    ∷ ofCounts stored (3 ∷ 4 ∷ []) (4 ∷ 3 ∷ []) (cited 0 ∷ cited 0 ∷ unshown ∷ []) (leaf (1 ∷ 0 ∷ [])) (refused 17 1)
+    ∷ ofCounts storedRefutation (3 ∷ 4 ∷ []) (4 ∷ 3 ∷ []) (cited 0 ∷ cited 0 ∷ cited 1 ∷ []) (leaf (1 ∷ 1 ∷ [])) (refused 16 1)
+    ∷ ofCounts storedRefutation (3 ∷ 4 ∷ []) (4 ∷ 3 ∷ []) (cited 0 ∷ cited 0 ∷ cited 0 ∷ []) (leaf (1 ∷ 1 ∷ [])) (refused 17 1)
+    ∷ withCells (cited 0 ∷ cited 0 ∷ cited 0 ∷ []) (leaf (1 ∷ 0 ∷ [])) (refused 18 1)
+    ∷ ofCounts storedRefutation (3 ∷ 4 ∷ []) (4 ∷ 3 ∷ []) (cited 0 ∷ cited 0 ∷ unshown ∷ []) (leaf (1 ∷ 0 ∷ [])) (refused 17 1)
     -- 10 over all records comes first, and of these the first
     ∷ stored limited [] (noneHas (2 ∷ []) (clash 10) ∷ noneHas [] (count [] [] (leaf [])) ∷ noneHas [] (count [] [] (leaf [])) ∷ []) (refused 10 1)
+    ∷ []
+
+-- k rows: at most 1, at least 3, and others
+many : Description
+many = tableOf (under 0 ∷ [])
+    (top ∷ atLeast 0 (lit 0) 2 ∷ atLeast 0 (lit 0) 3 ∷ atLeast 0 (lit 0) 4 ∷ atLeast 0 (lit 0) 5 ∷ atLeast 0 (lit 0) 6 ∷ atLeast 0 (lit 0) 7
+    ∷ atLeast 0 (lit 0) 8 ∷ []) (lit 0) []
+
+abbrev ofMany : RefutationLimits → List ℕ → ℕ → List ℕ → Option Refusal → Trial
+ofMany lim rows n multipliers = trial lim many rows (noneHas (1 ∷ []) (clash 1) ∷ noneHas rows (count rows (quads n) (leaf multipliers)) ∷ [])
+
+manyTrials : List Trial
+manyTrials =
+    -- 10: six rows, and seven; lifted, seven are allowed
+    ofMany storedRefutation (3 ∷ 4 ∷ 6 ∷ 8 ∷ 10 ∷ 12 ∷ []) 15 (1 ∷ 1 ∷ 0 ∷ 0 ∷ 0 ∷ 0 ∷ []) none
+    ∷ ofMany storedRefutation (3 ∷ 4 ∷ 6 ∷ 8 ∷ 10 ∷ 12 ∷ 14 ∷ []) 31 (1 ∷ 1 ∷ 0 ∷ 0 ∷ 0 ∷ 0 ∷ 0 ∷ []) (refused 10 1)
+    ∷ ofMany anyRefutation (3 ∷ 4 ∷ 6 ∷ 8 ∷ 10 ∷ 12 ∷ 14 ∷ []) 31 (1 ∷ 1 ∷ 0 ∷ 0 ∷ 0 ∷ 0 ∷ 0 ∷ []) none
     ∷ []
 
 -- ---- the rows
@@ -398,7 +412,7 @@ knownTrials =
 
 known-found : map (λ t. t .found) knownTrials ≡ map (λ t. set (t .literals)) knownTrials
 unfolding knownTrials counted passing
-  rowsOf known cellRole ancestor closure sameEntry literal members labelOf with has setOf anyBelow
+    rowsOf known cellRole ancestor closure sameEntry literal members labelOf with has setOf anyBelow
 known-found = refl
 
 -- ---- 18, of what is known
@@ -428,15 +442,15 @@ cellTrials =
     ∷ []
 
 -- ---- all of them
-trials : List Trial
-trials = endTrials ++ (stepTrials ++ (countTrials ++ cellTrials))
+abbrev Agree : List Trial → Type 0
+Agree ts = map (λ t. refutationRefusal (t .limits) (t .given) (t .wanted) (t .list)) ts ≡ map (λ t. t .answer) ts
 
-trials-hold : map (λ t. refutationRefusal (t .limits) (t .given) (t .wanted) (t .list)) trials ≡ map (λ t. t .answer) trials
-unfolding trials endTrials stepTrials countTrials cellTrials topOnly limited p2 p6-with p6 named many quads chain splitAt counted
-  refutationRefusal refuseFrom recordRefusal whenCounting ifCited namedTest appliesTest endLabel
-  formed depth leafTest treeTest rowsOf bounds known cellRole ancestor closure sameEntry isBoth
-  literal members adding labelOf narrow within with has setOf each allBelow anyBelow
-trials-hold = refl
+trials-hold : Agree endTrials × Agree stepTrials × Agree countTrials × Agree manyTrials × Agree cellTrials
+unfolding endTrials stepTrials countTrials manyTrials cellTrials topOnly limited p2 p6-with p6 named many quads chain splitAt counted
+    refutationRefusal refuseFrom recordRefusal whenCounting ifCited namedTest appliesTest endLabel
+    formed depth leafTest treeTest rowsOf bounds known cellRole ancestor closure sameEntry isBoth
+    literal members adding labelOf narrow within with has setOf each allBelow anyBelow
+trials-hold = (refl, refl, refl, refl, refl)
 
 -- ---- so P6's class is empty: no model has an element with literal 8
 limited-accepted : Accepted limited
@@ -445,6 +459,6 @@ limited-accepted = accepted↔ limited (omega arith) (omega arith) .0 refl
 
 p6-empty : (I : Interpretation) → Model limited I → Satisfies limited (lit 8 ∷ []) I → ⊥
 unfolding limited p6-with p6 refutationRefusal refuseFrom recordRefusal whenCounting ifCited namedTest appliesTest endLabel
-  formed depth leafTest treeTest rowsOf bounds known cellRole ancestor closure sameEntry isBoth
-  literal members adding labelOf narrow within with has setOf each allBelow anyBelow
+    formed depth leafTest treeTest rowsOf bounds known cellRole ancestor closure sameEntry isBoth
+    literal members adding labelOf narrow within with has setOf each allBelow anyBelow
 p6-empty = refutation-sound limited limited-accepted (lit 8 ∷ []) p6 (lifted-refutation↔ limited limited-accepted (lit 8 ∷ []) p6 (omega arith) .0 refl)
