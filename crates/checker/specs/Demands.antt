@@ -13,16 +13,16 @@ use Rattle.counting.specs.Rows.{Solves, Fillers}
 use Rattle.counting.specs.Solutions.{fillers}
 use Rattle.description.specs.Literals.{Literal, entryOf}
 use Rattle.description.specs.Descriptions.{Description}
-use Rattle.description.specs.Acceptance.{Accepted}
+use Rattle.description.specs.Acceptance.{descriptionRefusal, Accepted, accepted↔}
 use Rattle.interpretation.specs.Meaning.{Interpretation}
 use Rattle.interpretation.specs.Models.{Model, Satisfies}
 use Rattle.graph.specs.Graphs.{Graph, GraphLimits, GraphFits, Keeps}
-use Rattle.graph.specs.GraphTests.{graphRefusal, graph↔}
+use Rattle.graph.specs.GraphTests.{anyGraph, graphRefusal, graph↔, lifted-graph↔}
 use Rattle.graph.specs.Line.{line}
 use Rattle.graph.specs.Sound.{graph-sound}
 use Rattle.refutation.specs.Cells.{bounds, rowsOf}
 use Rattle.refutation.specs.Records.{Refutation, RefutationLimits, RefutationFits, Closes, openAt, Counting}
-use Rattle.refutation.specs.RecordTests.{refutationRefusal, refutation↔}
+use Rattle.refutation.specs.RecordTests.{anyRefutation, refutationRefusal, refutation↔, lifted-refutation↔}
 use Rattle.refutation.specs.Sound.{refutation-sound}
 use Rattle.completeness.specs.Dichotomy.{exactly-one, small-graph}
 
@@ -33,15 +33,31 @@ wanted D = D .root ∷ []
 wanted-in : (D : Description) → Accepted D → (l : Literal) → l ∈ wanted D → entryOf l < D .entries
 wanted-in D A l m = elim (List·Memᴰ·cases-cons m) [ inl e ↦ subst (λ k. entryOf k < D .entries) (sym e) (A .root-in) | inr t ↦ elim t [ ] ]
 
-module _ (D : Description) (A : Accepted D) where
-  -- demand 2, "exactly when": a graph is refused by none of 10 to 15 exactly if it keeps the rules, within the limits
-  pub inhabited-when : (lim : GraphLimits) (G : Graph) → 1 ≤ length G → (graphRefusal lim D (wanted D) G ≡ none) ↔ (Keeps D (wanted D) G × GraphFits lim G)
-  inhabited-when lim G h = graph↔ lim D (wanted D) G h
+-- demand 2, the counting sentence, for the rows and open cells of a counting step (counting's `fillers` has it for any rows and cells)
+pub counting-fillers : (D : Description) (K : Counting)
+    → ((x : ℕ → ℕ) × Solves (bounds (rowsOf D (K .rows))) (openAt (K .cells)) x) ↔ Fillers (bounds (rowsOf D (K .rows))) (openAt (K .cells))
+counting-fillers D K = fillers (bounds (rowsOf D (K .rows))) (openAt (K .cells))
 
-  -- and a refutation by none of 10 and 16 to 20 exactly if it closes, within the limits
-  pub empty-when : (lim : RefutationLimits) (C : Refutation) → 1 ≤ length C
-      → (refutationRefusal lim D (wanted D) C ≡ none) ↔ (Closes D (wanted D) C × RefutationFits lim C)
-  empty-when lim C h = refutation↔ lim D A (wanted D) C h
+-- demand 2, "exactly when", of descriptions: with a role and an entry, refused by none of 3 to 8 exactly if accepted
+pub accepted-when : (D : Description) → ((1 ≤ D .roles) × ((1 ≤ D .entries) × (descriptionRefusal D ≡ none))) ↔ Accepted D
+accepted-when = accepted↔
+
+module _ (D : Description) (A : Accepted D) where
+  -- of evidence, for any limits: refused by none of 10 to 20 exactly if it keeps the rules within the limits
+  pub inhabited-when : (lim : GraphLimits) (G : Graph)
+      → ((1 ≤ length G) × (graphRefusal lim D (wanted D) G ≡ none)) ↔ (Keeps D (wanted D) G × GraphFits lim G)
+  inhabited-when lim G = graph↔ lim D (wanted D) G
+
+  pub empty-when : (lim : RefutationLimits) (C : Refutation)
+      → ((1 ≤ length C) × (refutationRefusal lim D (wanted D) C ≡ none)) ↔ (Closes D (wanted D) C × RefutationFits lim C)
+  empty-when lim C = refutation↔ lim D A (wanted D) C
+
+  -- and of lifted evidence, which has none: exactly if it keeps the rules
+  pub graph-keeps : (G : Graph) → ((1 ≤ length G) × (graphRefusal anyGraph D (wanted D) G ≡ none)) ↔ Keeps D (wanted D) G
+  graph-keeps G = lifted-graph↔ D (wanted D) G
+
+  pub refutation-keeps : (C : Refutation) → ((1 ≤ length C) × (refutationRefusal anyRefutation D (wanted D) C ≡ none)) ↔ Closes D (wanted D) C
+  refutation-keeps C = lifted-refutation↔ D A (wanted D) C
 
   -- demand 2, "true": after INHABITED the line of the graph is a finite model with the class
   pub inhabited-true : (G : Graph) → Keeps D (wanted D) G → Model D (line D G) × Satisfies D (wanted D) (line D G)
@@ -51,13 +67,8 @@ module _ (D : Description) (A : Accepted D) where
   pub empty-true : (C : Refutation) → Closes D (wanted D) C → (I : Interpretation) → Model D I → Satisfies D (wanted D) I → ⊥
   empty-true C c I M s = refutation-sound D A (wanted D) C c I M s
 
-  -- demand 2, the counting sentence, for the rows and open cells of a counting step (and, in fillers, for any rows and open cells)
-  pub counting-fillers : (K : Counting)
-      → ((x : ℕ → ℕ) × Solves (bounds (rowsOf D (K .rows))) (openAt (K .cells)) x) ↔ Fillers (bounds (rowsOf D (K .rows))) (openAt (K .cells))
-  counting-fillers K = fillers (bounds (rowsOf D (K .rows))) (openAt (K .cells))
-
-  -- demand 3: exactly one of two holds
-  pub one-of-two : (((G : Graph) × Keeps D (wanted D) G) ⊎ ((C : Refutation) × Closes D (wanted D) C))
+  -- demand 3: exactly one of two exists, a graph (then one with at most 2^entries nodes) or a refutation
+  pub one-of-two : (((G : Graph) × Keeps D (wanted D) G × (length G ≤ 2 ^ D .entries)) ⊎ ((C : Refutation) × Closes D (wanted D) C))
       × (((G : Graph) × Keeps D (wanted D) G) → ((C : Refutation) × Closes D (wanted D) C) → ⊥)
   one-of-two = exactly-one D A (wanted D) (wanted-in D A)
 

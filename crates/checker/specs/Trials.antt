@@ -18,7 +18,7 @@ use Rattle.counting.specs.Trees.{Tree, leaf, formed, depth, leafTest, treeTest}
 use Rattle.description.specs.Literals.{Literal, literal, members, adding, labelOf}
 use Rattle.description.specs.Descriptions.{Entry, top, both, every, atLeast, Description, sameEntry, ifBoth, ifEvery, ifLeast, isBoth}
 use Rattle.description.specs.Roles.{ancestor, simple}
-use Rattle.description.specs.Acceptance.{entryTest, descriptionRefusal, accepted↔}
+use Rattle.description.specs.Acceptance.{entryTest, descriptionRefusal, descriptionTests, accepted↔}
 use Rattle.description.specs.Examples.{under, transitiveUnder, tableOf, lit}
 use Rattle.interpretation.specs.Meaning.{Interpretation, holds}
 use Rattle.interpretation.specs.Models.{Model}
@@ -27,7 +27,7 @@ use Rattle.graph.specs.GraphTests.{storedGraph, labelTest, bothTest, edgeTest, 
 use Rattle.graph.specs.Line.{copies, joins, direct, pairs, line}
 use Rattle.refutation.specs.Cells.{rowsOf, bounds, cellRole, known}
 use Rattle.refutation.specs.Records.{Cell, unshown, cited, Step, contradiction, conjunction, counting, Record, Refutation}
-use Rattle.refutation.specs.RecordTests.{storedRefutation, whenCounting, ifCited, namedTest, appliesTest, recordRefusal, endLabel, refutationRefusal}
+use Rattle.refutation.specs.RecordTests.{storedRefutation, whenCounting, ifCited, citeTest, stepTest, recordRefusal, endLabel, refutationRefusal}
 use Rattle.checker.specs.Demands.{wanted, inhabited-when, empty-when, inhabited-true, empty-true}
 
 -- ---- evidence by numbers: a label, and row literals, by their literals' numbers
@@ -81,9 +81,9 @@ after D others a = unlessRefused (refuse 0 (descriptionRefusal D) others) a
 
 -- with the limits of stored evidence; `unfolding outcome` unfolds all that an outcome computes with
 unfoldable pub outcome : Trial → Answer
-unfolding descriptionRefusal entryTest simple ancestor closure sameEntry ifBoth ifEvery ifLeast isBoth literal members adding labelOf
+unfolding descriptionTests entryTest simple ancestor closure sameEntry ifBoth ifEvery ifLeast isBoth literal members adding labelOf
     graphRefusal nodeRefusal labelTest bothTest edgeTest everyTest countTest total copies maxBelow
-    refutationRefusal recordRefusal whenCounting ifCited namedTest appliesTest endLabel formed depth leafTest treeTest rowsOf bounds known cellRole
+    refutationRefusal recordRefusal whenCounting ifCited citeTest stepTest endLabel formed depth leafTest treeTest rowsOf bounds known cellRole
     refuseFrom allBelow anyBelow each some? has nonempty narrow within with setOf
 outcome (describes D) = after D none accepted
 outcome (samples D G) = after D (graphRefusal storedGraph D (wanted D) G) inhabited
@@ -96,16 +96,16 @@ module _ (D : Description) (r : 1 ≤ D .roles) (e : 1 ≤ D .entries) (d : desc
   pub inhabits : (G : Graph) → 1 ≤ length G → graphRefusal storedGraph D (wanted D) G ≡ none
       → Model D (line D G) × ((x : ℕ) × (x < line D G .size) × So (holds D (line D G) (D .root) x))
   inhabits G h g =
-      let A = accepted↔ D r e .0 d in
-      let m = inhabited-true D A G (inhabited-when D A storedGraph G h .0 g .0) in
+      let A = accepted↔ D .0 (r, (e, d)) in
+      let m = inhabited-true D A G (inhabited-when D A storedGraph G .0 (h, g) .0) in
       (m .0, (m .1 .0, m .1 .1, m .1 .2 (D .root) (List·Memᴰ·head refl)))
 
   -- no element of any finite model has the root
   pub empties : (C : Refutation) → 1 ≤ length C → refutationRefusal storedRefutation D (wanted D) C ≡ none
       → (I : Interpretation) → Model D I → (x : ℕ) → x < I .size → So (holds D I (D .root) x) → ⊥
   empties C h c I M x l t =
-      let A = accepted↔ D r e .0 d in
-      empty-true D A C (empty-when D A storedRefutation C h .0 c .0) I M
+      let A = accepted↔ D .0 (r, (e, d)) in
+      empty-true D A C (empty-when D A storedRefutation C .0 (h, c) .0) I M
       (x, l, λ k m. elim (List·Memᴰ·cases-cons m) [ inl q ↦ subst (λ n. So (holds D I n x)) (sym q) t | inr n ↦ elim n [ ] ])
 
 -- ---- the data

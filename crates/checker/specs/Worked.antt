@@ -178,9 +178,9 @@ pairs-refuted = (refl, refl)
 pairs-empty : (I : Interpretation) → Model pairs I → Satisfies pairs pairs-wanted I → ⊥
 unfolding pairs-refusal
 pairs-empty =
-    let A = accepted↔ pairs (omega arith) (omega arith) .0 (pairs-refuted .0) in
+    let A = accepted↔ pairs .0 (omega arith, (omega arith, pairs-refuted .0)) in
     refutation-sound pairs A pairs-wanted (pairs-list pairs-tree)
-    (refutation↔ storedRefutation pairs A pairs-wanted (pairs-list pairs-tree) (omega arith) .0 (pairs-refuted .1) .0)
+    (refutation↔ storedRefutation pairs A pairs-wanted (pairs-list pairs-tree) .0 (omega arith, pairs-refuted .1) .0)
 
 -- halves do: with one filler in each open cell the total of each row is twice its bound
 pairs-halves : tabulate 6 (λ i. total 64 (openAt pairs-cells) (λ _. 1) (λ c. has c i)) ≡ replicate 6 2
@@ -205,4 +205,4 @@ pairs-no-leaf a b c d e f = ap (λ t. refuse 25 (unless t 19 none) none) (so-fal
     stays-open t =
         let h = tree↔ 64 (openAt pairs-cells) (storedRefutation .value) (limits rows) (leaf ms) .0 t .0 in
         let at = h .balanced in
-        omega (arith, at 15 (omega arith) refl, at 51 (omega arith) refl, at 60 (omega arith) refl, gap↔ (limits rows) ms .0 (h .gains))
+        omega (arith, at 15 (omega arith) refl, at 51 (omega arith) refl, at 60 (omega arith) refl, gap↔ (limits rows) ms .0 (h .above-zero))

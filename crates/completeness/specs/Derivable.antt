@@ -18,16 +18,11 @@ use Rattle.counting.specs.Rows.{Closed, limits}
 use Rattle.description.specs.Literals.{Literal, pos, neg, opposite, code, entryOf, Label, members, plus, Within, InTable, labelOf, members-labelOf, literal-same}
 use Rattle.description.specs.Descriptions.{both, Description}
 use Rattle.refutation.specs.Cells.{rowOf, isRow, rowsOf, bounds, Known, length-rows, length-bounds}
-use Rattle.refutation.specs.Records.{Cell, unshown, cited, isOpen, openAt, cellAt, literalAt, Counting, Step, contradiction, conjunction, disjunction, byRule, caseSplit, counting, Record, Refutation, recordAt, labelAt, Formed, RecordOk}
-
--- every record keeps the rules, whatever the last label
-pub record Valid (D : Description) (C : Refutation) : Type 0 where
-  pub forms : (i : ℕ) → i < length C → Formed (recordAt C i .step)
-  pub records : (i : ℕ) → i < length C → RecordOk D (labelAt C) i (members (labelAt C i)) (recordAt C i .step)
+use Rattle.refutation.specs.Records.{Cell, unshown, cited, isOpen, openAt, cellAt, literalAt, Counting, Step, contradiction, conjunction, disjunction, byRule, caseSplit, counting, Record, Refutation, recordAt, numberAt, Formed, RecordOk, Valid}
 
 pub record Extends (C C′ : Refutation) : Type 0 where
   pub longer : length C ≤ length C′
-  pub keeps : (i : ℕ) → i < length C → labelAt C′ i ≡ labelAt C i
+  pub keeps : (i : ℕ) → i < length C → numberAt C′ i ≡ numberAt C i
 
 pub record Reaches (D : Description) (L : Label) (C : Refutation) : Type 0 where
   pub list : Refutation
@@ -35,7 +30,7 @@ pub record Reaches (D : Description) (L : Label) (C : Refutation) : Type 0 where
   pub extends : Extends C list
   pub at : ℕ
   pub at-in : at < length list
-  pub lies : Within (members (labelAt list at)) L
+  pub lies : Within (members (numberAt list at)) L
 
 abbrev pub Derivable : Description → Label → Type 0
 Derivable D L = (C : Refutation) → Valid D C → Reaches D L C
@@ -56,40 +51,43 @@ module _ (D : Description) (num num′ : ℕ → ℕ) (i : ℕ) (L : Label) (sam
   moved j M h w = rw (same j h) w
 
   move : (s : Step) → RecordOk D num i L s → RecordOk D num′ i L s
-  move (contradiction l) o = record { in-table = o .in-table; named = o .named; applies = o .applies; shows = tt; ends = tt }
-  move (conjunction e c) o = let w = o .applies .1 in record {
+  move (contradiction l) o = record { in-table = o .in-table; cite-ok = o .cite-ok; step-ok = o .step-ok; cell-ok = tt; tree-ok = tt }
+  move (conjunction e c) o = let w = o .step-ok .1 in record {
     in-table = o .in-table;
-    named = o .named;
-    applies = (o .applies .0, (w .0, w .1, w .2, moved c (plus (plus L (w .0)) (w .1)) (o .named .1) (w .3)));
-    shows = tt;
-    ends = tt;
+    cite-ok = o .cite-ok;
+    step-ok = (o .step-ok .0, (w .0, w .1, w .2, moved c (plus (plus L (w .0)) (w .1)) (o .cite-ok .1) (w .3)));
+    cell-ok = tt;
+    tree-ok = tt;
   }
-  move (disjunction e c d) o = let w = o .applies .1 in record {
+  move (disjunction e c d) o = let w = o .step-ok .1 in record {
     in-table = o .in-table;
-    named = o .named;
-    applies = (o .applies .0, (
-      w .0,
-      w .1,
-      w .2,
-      (moved c (plus L (opposite (w .0))) (o .named .1 .0) (w .3 .0), moved d (plus L (opposite (w .1))) (o .named .1 .1) (w .3 .1)),
-    ));
-    shows = tt;
-    ends = tt;
+    cite-ok = o .cite-ok;
+    step-ok = (
+      o .step-ok .0,
+      (
+        w .0,
+        w .1,
+        w .2,
+        (moved c (plus L (opposite (w .0))) (o .cite-ok .1 .0) (w .3 .0), moved d (plus L (opposite (w .1))) (o .cite-ok .1 .1) (w .3 .1)),
+      ),
+    );
+    cell-ok = tt;
+    tree-ok = tt;
   }
-  move (byRule q c) o = record { in-table = o .in-table; named = o .named; applies = moved c (plus L (D .rule q)) (o .named .1) (o .applies); shows = tt; ends = tt }
+  move (byRule q c) o = record { in-table = o .in-table; cite-ok = o .cite-ok; step-ok = moved c (plus L (D .rule q)) (o .cite-ok .1) (o .step-ok); cell-ok = tt; tree-ok = tt }
   move (caseSplit e c d) o = record {
     in-table = o .in-table;
-    named = o .named;
-    applies = (moved c (plus L (pos e)) (o .named .1 .0) (o .applies .0), moved d (plus L (neg e)) (o .named .1 .1) (o .applies .1));
-    shows = tt;
-    ends = tt;
+    cite-ok = o .cite-ok;
+    step-ok = (moved c (plus L (pos e)) (o .cite-ok .1 .0) (o .step-ok .0), moved d (plus L (neg e)) (o .cite-ok .1 .1) (o .step-ok .1));
+    cell-ok = tt;
+    tree-ok = tt;
   }
   move (counting K) o = record {
     in-table = o .in-table;
-    named = o .named;
-    applies = o .applies;
-    shows = λ c h p j q l u. o .shows c h p j q l (subst (λ n. So (members n l)) (same j (o .named .1 c h p j q)) u);
-    ends = o .ends;
+    cite-ok = o .cite-ok;
+    step-ok = o .step-ok;
+    cell-ok = λ c h p j q l u. o .cell-ok c h p j q l (subst (λ n. So (members n l)) (same j (o .cite-ok .1 c h p j q)) u);
+    tree-ok = o .tree-ok;
   }
 
 not-cited : (j : ℕ) → unshown ≡ cited j → ⊥
@@ -113,30 +111,30 @@ module _ (C : Refutation) (N : ℕ) (s : Step) where
   new-record : recordAt (append C N s) (length C) ≡ record { label = N; step = s }
   new-record = at-snoc-new C _ _
 
-append-valid : (D : Description) (C : Refutation) (N : ℕ) (s : Step) → Valid D C → Formed s → RecordOk D (labelAt C) (length C) (members N) s → Valid D (append C N s)
+append-valid : (D : Description) (C : Refutation) (N : ℕ) (s : Step) → Valid D C → Formed s → RecordOk D (numberAt C) (length C) (members N) s → Valid D (append C N s)
 append-valid D C N s v f o = record {
   forms = λ i h. up-to (λ i. Formed (recordAt C′ i .step)) (length C)
       (λ i h. rw (old-record C N s i h) (v .forms i h)) (rw (new-record C N s) f) i (rw (length-snoc C _) at h);
-  records = λ i h. up-to (λ i. RecordOk D (labelAt C′) i (members (labelAt C′ i)) (recordAt C′ i .step)) (length C) old new i (rw (length-snoc C _) at h);
+  records = λ i h. up-to (λ i. RecordOk D (numberAt C′) i (members (numberAt C′ i)) (recordAt C′ i .step)) (length C) old new i (rw (length-snoc C _) at h);
 }
   where
     C′ : Refutation
     C′ = append C N s
 
-    old : (i : ℕ) → i < length C → RecordOk D (labelAt C′) i (members (labelAt C′ i)) (recordAt C′ i .step)
-    old i h = subst (λ R. RecordOk D (labelAt C′) i (members (R .label)) (R .step)) (sym (old-record C N s i h))
-        (move D (labelAt C) (labelAt C′) i (members (labelAt C i)) (λ j g. ap (λ R. R .label) (old-record C N s j (omega arith))) (recordAt C i .step) (v .records i h))
+    old : (i : ℕ) → i < length C → RecordOk D (numberAt C′) i (members (numberAt C′ i)) (recordAt C′ i .step)
+    old i h = subst (λ R. RecordOk D (numberAt C′) i (members (R .label)) (R .step)) (sym (old-record C N s i h))
+        (move D (numberAt C) (numberAt C′) i (members (numberAt C i)) (λ j g. ap (λ R. R .label) (old-record C N s j (omega arith))) (recordAt C i .step) (v .records i h))
 
-    new : RecordOk D (labelAt C′) (length C) (members (labelAt C′ (length C))) (recordAt C′ (length C) .step)
-    new = subst (λ R. RecordOk D (labelAt C′) (length C) (members (R .label)) (R .step)) (sym (new-record C N s))
-        (move D (labelAt C) (labelAt C′) (length C) (members N) (λ j g. ap (λ R. R .label) (old-record C N s j g)) s o)
+    new : RecordOk D (numberAt C′) (length C) (members (numberAt C′ (length C))) (recordAt C′ (length C) .step)
+    new = subst (λ R. RecordOk D (numberAt C′) (length C) (members (R .label)) (R .step)) (sym (new-record C N s))
+        (move D (numberAt C) (numberAt C′) (length C) (members N) (λ j g. ap (λ R. R .label) (old-record C N s j g)) s o)
 
 -- the first m records of a valid list are one
 pub cut-valid : (D : Description) (C : Refutation) (m : ℕ) → m ≤ length C → Valid D C → Valid D (take m C)
 cut-valid D C m h v = record {
   forms = λ i l. subst (λ R. Formed (R .step)) (sym (same i (below i l))) (v .forms i (omega (arith, below i l)));
-  records = λ i l. subst (λ R. RecordOk D (labelAt (take m C)) i (members (R .label)) (R .step)) (sym (same i (below i l)))
-      (move D (labelAt C) (labelAt (take m C)) i (members (labelAt C i)) (λ j g. ap (λ R. R .label) (same j (omega (arith, g, below i l)))) (recordAt C i .step)
+  records = λ i l. subst (λ R. RecordOk D (numberAt (take m C)) i (members (R .label)) (R .step)) (sym (same i (below i l)))
+      (move D (numberAt C) (numberAt (take m C)) i (members (numberAt C i)) (λ j g. ap (λ R. R .label) (same j (omega (arith, g, below i l)))) (recordAt C i .step)
       (v .records i (omega (arith, below i l))));
 }
   where
@@ -152,10 +150,10 @@ label-is n L t = fun-ext (λ l. same-test _ _ (λ h. members-labelOf n L l .0 h 
 
 -- ---- the steps
 module _ (D : Description) (L : Label) (t : InTable (D .entries) L) where
-  finish : (C : Refutation) (s : Step) (C′ : Refutation) → Valid D C′ → Extends C C′ → Formed s → RecordOk D (labelAt C′) (length C′) L s → Reaches D L C
+  finish : (C : Refutation) (s : Step) (C′ : Refutation) → Valid D C′ → Extends C C′ → Formed s → RecordOk D (numberAt C′) (length C′) L s → Reaches D L C
   finish C s C′ v x f o = record {
     list = append C′ N s;
-    valid = append-valid D C′ N s v f (subst (λ M. RecordOk D (labelAt C′) (length C′) M s) (sym is) o);
+    valid = append-valid D C′ N s v f (subst (λ M. RecordOk D (numberAt C′) (length C′) M s) (sym is) o);
     extends = record {
       longer = omega (arith, x .longer, length-snoc C′ (record { label = N; step = s }));
       keeps = λ i h. ap (λ R. R .label) (old-record C′ N s i (omega (arith, x .longer))) ∙ x .keeps i h;
@@ -173,20 +171,20 @@ module _ (D : Description) (L : Label) (t : InTable (D .entries) L) where
 
   pub by-contradiction : (l : Literal) → So (L l) → So (L (opposite l)) → Derivable D L
   by-contradiction l p q C v = finish C (contradiction l) C v (extends-refl C) tt
-      (record { in-table = t; named = t l p; applies = (or-l _ _ p, or-l _ _ q); shows = tt; ends = tt })
+      (record { in-table = t; cite-ok = t l p; step-ok = (or-l _ _ p, or-l _ _ q); cell-ok = tt; tree-ok = tt })
 
   -- literal 1: literal 0 counts as in L
   pub by-bottom : So (L (neg 0)) → Derivable D L
   by-bottom p C v = finish C (contradiction (neg 0)) C v (extends-refl C) tt
-      (record { in-table = t; named = t (neg 0) p; applies = (or-l _ _ p, or-r (L (pos 0)) _ (literal-same (pos 0))); shows = tt; ends = tt })
+      (record { in-table = t; cite-ok = t (neg 0) p; step-ok = (or-l _ _ p, or-r (L (pos 0)) _ (literal-same (pos 0))); cell-ok = tt; tree-ok = tt })
 
   pub by-conjunction : (e : ℕ) (a b : Literal) → D .entry e ≡ both a b → So (L (pos e)) → Derivable D (plus (plus L a) b) → Derivable D L
   by-conjunction e a b q p d C v = let r = d C v in finish C (conjunction e (r .at)) (r .list) (r .valid) (r .extends) tt
-      (record { in-table = t; named = (t (pos e) p, r .at-in); applies = (p, (a, b, q, r .lies)); shows = tt; ends = tt })
+      (record { in-table = t; cite-ok = (t (pos e) p, r .at-in); step-ok = (p, (a, b, q, r .lies)); cell-ok = tt; tree-ok = tt })
 
   pub by-rule : (i : ℕ) → i < D .rules → Derivable D (plus L (D .rule i)) → Derivable D L
   by-rule i h d C v = let r = d C v in finish C (byRule i (r .at)) (r .list) (r .valid) (r .extends) tt
-      (record { in-table = t; named = (h, r .at-in); applies = r .lies; shows = tt; ends = tt })
+      (record { in-table = t; cite-ok = (h, r .at-in); step-ok = r .lies; cell-ok = tt; tree-ok = tt })
 
   -- two cites: the second list extends the first
   record Two (C : Refutation) (M N : Label) : Type 0 where
@@ -195,10 +193,10 @@ module _ (D : Description) (L : Label) (t : InTable (D .entries) L) where
     extends : Extends C list
     first : ℕ
     first-in : first < length list
-    first-lies : Within (members (labelAt list first)) M
+    first-lies : Within (members (numberAt list first)) M
     second : ℕ
     second-in : second < length list
-    second-lies : Within (members (labelAt list second)) N
+    second-lies : Within (members (numberAt list second)) N
 
   two : (C : Refutation) → Valid D C → (M N : Label) → Derivable D M → Derivable D N → Two C M N
   two C v M N c d = let r = c C v in let s = d (r .list) (r .valid) in record {
@@ -217,16 +215,16 @@ module _ (D : Description) (L : Label) (t : InTable (D .entries) L) where
   by-disjunction e a b q p c d C v = let r = two C v (plus L (opposite a)) (plus L (opposite b)) c d in
       finish C (disjunction e (r .first) (r .second)) (r .list) (r .valid) (r .extends) tt (record {
         in-table = t;
-        named = (t (neg e) p, (r .first-in, r .second-in));
-        applies = (p, (a, b, q, (r .first-lies, r .second-lies)));
-        shows = tt;
-        ends = tt;
+        cite-ok = (t (neg e) p, (r .first-in, r .second-in));
+        step-ok = (p, (a, b, q, (r .first-lies, r .second-lies)));
+        cell-ok = tt;
+        tree-ok = tt;
       })
 
   pub by-cases : (e : ℕ) → e < D .entries → Derivable D (plus L (pos e)) → Derivable D (plus L (neg e)) → Derivable D L
   by-cases e h c d C v = let r = two C v (plus L (pos e)) (plus L (neg e)) c d in
       finish C (caseSplit e (r .first) (r .second)) (r .list) (r .valid) (r .extends) tt
-      (record { in-table = t; named = (h, (r .first-in, r .second-in)); applies = (r .first-lies, r .second-lies); shows = tt; ends = tt })
+      (record { in-table = t; cite-ok = (h, (r .first-in, r .second-in)); step-ok = (r .first-lies, r .second-lies); cell-ok = tt; tree-ok = tt })
 
   -- counting: one cite for each cell that is not open; cell i + 1 is number i of the list
   module _ (open? : ℕ → Bool) (known : ℕ → Label) where
@@ -237,7 +235,7 @@ module _ (D : Description) (L : Label) (t : InTable (D .entries) L) where
       cells : List Cell
       long : length cells ≡ m
       marks : (i : ℕ) → i < m → isOpen (getD cells i unshown) ≡ open? (suc i)
-      cites : (i : ℕ) → i < m → (j : ℕ) → getD cells i unshown ≡ cited j → (j < length list) × Within (members (labelAt list j)) (known (suc i))
+      cites : (i : ℕ) → i < m → (j : ℕ) → getD cells i unshown ≡ cited j → (j < length list) × Within (members (numberAt list j)) (known (suc i))
 
     no-cells : (C : Refutation) → Valid D C → Cells C 0
     no-cells C v = record {
@@ -252,7 +250,7 @@ module _ (D : Description) (L : Label) (t : InTable (D .entries) L) where
 
     -- one cell more, after a list that extends the one so far
     one-cell : (C : Refutation) (m : ℕ) (S : Cells C m) (C′ : Refutation) → Valid D C′ → Extends (S .list) C′ → (x : Cell) → isOpen x ≡ open? (suc m)
-        → ((j : ℕ) → x ≡ cited j → (j < length C′) × Within (members (labelAt C′ j)) (known (suc m))) → Cells C (suc m)
+        → ((j : ℕ) → x ≡ cited j → (j < length C′) × Within (members (numberAt C′ j)) (known (suc m))) → Cells C (suc m)
     one-cell C m S C′ v e x o w = record {
       list = C′;
       valid = v;
@@ -260,7 +258,7 @@ module _ (D : Description) (L : Label) (t : InTable (D .entries) L) where
       cells = S .cells ++ (x ∷ []);
       long = length-snoc (S .cells) x ∙ ap suc (S .long);
       marks = up-to (λ i. isOpen (getD (S .cells ++ (x ∷ [])) i unshown) ≡ open? (suc i)) m (λ i h. rw (old i h) (S .marks i h)) (rw new o);
-      cites = up-to (λ i. (j : ℕ) → getD (S .cells ++ (x ∷ [])) i unshown ≡ cited j → (j < length C′) × Within (members (labelAt C′ j)) (known (suc i))) m
+      cites = up-to (λ i. (j : ℕ) → getD (S .cells ++ (x ∷ [])) i unshown ≡ cited j → (j < length C′) × Within (members (numberAt C′ j)) (known (suc i))) m
           (λ i h j q. let u = S .cites i h j (sym (old i h) ∙ q) in (omega (arith, u .0, e .longer), rw (e .keeps j (u .0)) (u .1)))
           (λ j q. w j (sym new ∙ q));
     }
@@ -279,7 +277,7 @@ module _ (D : Description) (L : Label) (t : InTable (D .entries) L) where
         go S (inl o) = one-cell C m S (S .list) (S .valid) (extends-refl (S .list)) unshown (sym o) (λ j q. absurd (not-cited j q))
         go S (inr o) = let r = d m (omega arith) o (S .list) (S .valid) in
             one-cell C m S (r .list) (r .valid) (r .extends) (cited (r .at)) (sym (so-false _ o))
-            (λ j q. let e = same-cite (r .at) j q in subst (λ j. (j < length (r .list)) × Within (members (labelAt (r .list) j)) (known (suc m))) e (r .at-in, r .lies))
+            (λ j q. let e = same-cite (r .at) j q in subst (λ j. (j < length (r .list)) × Within (members (numberAt (r .list) j)) (known (suc m))) e (r .at-in, r .lies))
 
     pub by-counting : (lits : List Literal) → ((c : ℕ) (l : Literal) → So (known c l) → Known D L (rowsOf D lits) c l) → 1 ≤ length lits
         → ((l : Literal) → l ∈ lits → So (L l) × So (isRow (rowOf D l)))
@@ -290,10 +288,10 @@ module _ (D : Description) (L : Label) (t : InTable (D .entries) L) where
         (some, (omega (arith, S .long, pow-pos (length lits)), f))
         (record {
           in-table = t;
-          named = (λ l m. t l (inside l m .0), λ c h p j q. at c h p j q .0);
-          applies = (inside, rising);
-          shows = λ c h p j q l u. shown c l (at c h p j q .1 l u);
-          ends = tree-open (2 ^ length (bounds (rowsOf D lits))) open? (openAt (S .cells))
+          cite-ok = (λ l m. t l (inside l m .0), λ c h p j q. at c h p j q .0);
+          step-ok = (inside, rising);
+          cell-ok = λ c h p j q l u. shown c l (at c h p j q .1 l u);
+          tree-ok = tree-open (2 ^ length (bounds (rowsOf D lits))) open? (openAt (S .cells))
               (λ c h p. opened c (rw (length-bounds (rowsOf D lits), length-rows D lits) at h) p) (limits (bounds (rowsOf D lits))) tree closed;
         })
       where
@@ -304,7 +302,7 @@ module _ (D : Description) (L : Label) (t : InTable (D .entries) L) where
         K = record { rows = lits; cells = S .cells; tree = tree }
 
         -- a cell above 0 by its number in the list
-        at : (c : ℕ) → c < 2 ^ length lits → 0 < c → (j : ℕ) → cellAt (S .cells) c ≡ cited j → (j < length (S .list)) × Within (members (labelAt (S .list) j)) (known c)
+        at : (c : ℕ) → c < 2 ^ length lits → 0 < c → (j : ℕ) → cellAt (S .cells) c ≡ cited j → (j < length (S .list)) × Within (members (numberAt (S .list) j)) (known c)
         at zero h p j q = absurd (omega arith)
         at (suc i) h p j q = let e : suc i - 1 ≡ i = omega arith in S .cites i (omega arith) j (rw e at q)
 

@@ -24,10 +24,9 @@ use Rattle.graph.specs.Graphs.{Edge, Node, Graph, nodeAt, labelAt, edgesAt, Lab
 use Rattle.graph.specs.Line.{line}
 use Rattle.graph.specs.Sound.{graph-sound}
 use Rattle.graph.specs.Relabel.{relabel}
-use Rattle.refutation.specs.Records.{Refutation, recordAt, Closes}
-use Rattle.refutation.specs.Records as Records
+use Rattle.refutation.specs.Records.{Refutation, numberAt, Valid, Closes}
 use Rattle.refutation.specs.Sound.{refutation-sound}
-use Rattle.completeness.specs.Derivable.{Derivable, Valid, Reaches, cut-valid, label-is}
+use Rattle.completeness.specs.Derivable.{Derivable, Reaches, cut-valid, label-is}
 use Rattle.completeness.specs.Types.{typ, typ-in, pos-out}
 use Rattle.completeness.specs.Elimination.{type, Dropped, Supported, AllSupported, none-contains, remaining}
 
@@ -127,12 +126,14 @@ module _ (D : Description) (A : Accepted D) (W : List Literal) where
 
   -- a valid list with a record whose label is within what is wanted, cut after that record
   close : Reaches D wantedLabel [] → (C : Refutation) × Closes D W C
-  close r = (take m (r .list), record {
-    some-record = omega (arith, long);
-    forms = valid .forms;
-    records = valid .records;
-    end = λ l u. inr (wanted↔ l .0 (r .lies l (subst (λ N. So (members N l)) last u)));
-  })
+  close r = (
+    take m (r .list),
+    record {
+      some-record = omega (arith, long);
+      valid = valid;
+      end = λ l u. inr (wanted↔ l .0 (r .lies l (subst (λ N. So (members N l)) last u)));
+    },
+  )
     where
       m : ℕ
       m = suc (r .at)
@@ -143,9 +144,9 @@ module _ (D : Description) (A : Accepted D) (W : List Literal) where
       valid : Valid D (take m (r .list))
       valid = cut-valid D (r .list) m (r .at-in) (r .valid)
 
-      last : Records.labelAt (take m (r .list)) (length (take m (r .list)) - 1) ≡ Records.labelAt (r .list) (r .at)
+      last : numberAt (take m (r .list)) (length (take m (r .list)) - 1) ≡ numberAt (r .list) (r .at)
       last = let e : length (take m (r .list)) - 1 ≡ r .at = omega (arith, long) in
-          ap (Records.labelAt (take m (r .list))) e ∙ ap (λ R. R .label) (getD-take m (r .list) (r .at) _ (omega arith))
+          ap (numberAt (take m (r .list))) e ∙ ap (λ R. R .label) (getD-take m (r .list) (r .at) _ (omega arith))
 
   -- what is wanted is of the table
   module _ (W-in : (l : Literal) → l ∈ W → entryOf l < n) where
@@ -168,9 +169,10 @@ module _ (D : Description) (A : Accepted D) (W : List Literal) where
     pub small-graph : (G : Graph) → Keeps D W G → (H : Graph) × Keeps D W H × (length H ≤ 2 ^ n)
     small-graph G g = elim dichotomy [ inl w ↦ w | inr c ↦ absurd (exclusive G g (c .0) (c .1)) ]
 
-    -- exactly one of two
-    pub exactly-one : (((G : Graph) × Keeps D W G) ⊎ ((C : Refutation) × Closes D W C)) × (((G : Graph) × Keeps D W G) → ((C : Refutation) × Closes D W C) → ⊥)
-    exactly-one = (elim dichotomy [ inl w ↦ inl (w .0, w .1) | inr c ↦ inr c ], λ g c. exclusive (g .0) (g .1) (c .0) (c .1))
+    -- exactly one of two: a graph, and then a small one, or a refutation
+    pub exactly-one : (((G : Graph) × Keeps D W G × (length G ≤ 2 ^ n)) ⊎ ((C : Refutation) × Closes D W C))
+        × (((G : Graph) × Keeps D W G) → ((C : Refutation) × Closes D W C) → ⊥)
+    exactly-one = (dichotomy, λ g c. exclusive (g .0) (g .1) (c .0) (c .1))
 
     -- a graph exists exactly if some finite model satisfies what is wanted, and a refutation exactly if none does
     pub graph-exists : ((G : Graph) × Keeps D W G) ↔ ((I : Interpretation) × Model D I × Satisfies D W I)

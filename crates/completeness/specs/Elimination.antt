@@ -160,7 +160,7 @@ module _ (D : Description) (A : Accepted D) where
       | inr t ↦ inr (elim (decLe 1 (length (T .lits))) [ yes h ↦ closing h (t .0) (t .1) (t .2) | no h ↦ absurd (no-rows h (t .0) (t .2)) ])
     ]
       where
-        opened : (m : ℕ) → So (live (2 ^ length rows) open? m) → So (open? m)
+        opened : (m : ℕ) → So (live open? m) → So (open? m)
         opened m o = and-r (ltb 0 m) (open? m) o
 
         supported : (x : ℕ → ℕ) → Solves (bounds rows) open? x → Supported S c

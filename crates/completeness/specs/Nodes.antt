@@ -30,10 +30,10 @@ use Rattle.completeness.specs.TypeRows.{edgesBelow, edge-of-cell, edges-
 module _ (D : Description) (A : Accepted D) (p : ℕ → Bool) (size : ℕ) (lab : ℕ → ℕ → Bool) (rows : List Row)
     (row-in : (i : ℕ) → i < length rows → RowIn D (rowAt rows i)) (open? : ℕ → Bool) (x : ℕ → ℕ)
     (solves : (i : ℕ) → i < length rows
-      → Meets (rowAt rows i .side) (rowAt rows i .bound) (Trees.total (2 ^ length rows) open? x (λ c. has c i)))
-    (pick : ℕ → ℕ) (pick-in : (c : ℕ) → c < 2 ^ length rows → So (live (2 ^ length rows) open? c) → pick c < size)
-    (pick-has : (c : ℕ) → c < 2 ^ length rows → So (live (2 ^ length rows) open? c) → (l : Literal)
-      → Known D (typ (D .entries) p) rows c l → So (typ (D .entries) (lab (pick c)) l)) where
+    → Meets (rowAt rows i .side) (rowAt rows i .bound) (Trees.total (2 ^ length rows) open? x (λ c. has c i)))
+    (pick : ℕ → ℕ) (pick-in : (c : ℕ) → c < 2 ^ length rows → So (live open? c) → pick c < size)
+    (pick-has : (c : ℕ) → c < 2 ^ length rows → So (live open? c) → (l : Literal)
+    → Known D (typ (D .entries) p) rows c l → So (typ (D .entries) (lab (pick c)) l)) where
   abbrev n : ℕ
   n = D .entries
 
@@ -51,7 +51,7 @@ module _ (D : Description) (A : Accepted D) (p : ℕ → Bool) (size : ℕ) (lab
 
   -- the edge of a cell: a type over its known label, its roles, its size
   abbrev edge : ℕ → Edge
-  edge c = record { target = pick c; mask = setOf (D .roles) (roles c); count = only (live cells open? c) (x c) }
+  edge c = record { target = pick c; mask = setOf (D .roles) (roles c); count = only (live open? c) (x c) }
 
   abbrev es : List Edge
   es = edgesBelow edge cells
@@ -76,17 +76,17 @@ module _ (D : Description) (A : Accepted D) (p : ℕ → Bool) (size : ℕ) (lab
   mask↔ c r = (λ u. setOf↔ (D .roles) (roles c) r .0 u .1, λ u. setOf↔ (D .roles) (roles c) r .1 (roles-in c r u, u))
 
   -- an edge is that of an open cell with fillers
-  of-cell : (P : Edge → Type 0) → ((c : ℕ) → c < cells → So (live cells open? c) → 1 ≤ x c → P (edge c)) → (E : Edge) → E ∈ es → P E
-  of-cell P f E m = let w = edge-of-cell edge cells E m in subst P (sym (w .3)) (f (w .0) (w .1) (opened (w .0) (w .2)) (omega (arith, w .2, only-le (live cells open? (w .0)) (x (w .0)))))
+  of-cell : (P : Edge → Type 0) → ((c : ℕ) → c < cells → So (live open? c) → 1 ≤ x c → P (edge c)) → (E : Edge) → E ∈ es → P E
+  of-cell P f E m = let w = edge-of-cell edge cells E m in subst P (sym (w .3)) (f (w .0) (w .1) (opened (w .0) (w .2)) (omega (arith, w .2, only-le (live open? (w .0)) (x (w .0)))))
     where
-      opened : (c : ℕ) → 1 ≤ only (live cells open? c) (x c) → So (live cells open? c)
-      opened c h = elim (decide (live cells open? c)) [ inl u ↦ u | inr u ↦ absurd (omega (arith, only-off (live cells open? c) (x c) u)) ]
+      opened : (c : ℕ) → 1 ≤ only (live open? c) (x c) → So (live open? c)
+      opened c h = elim (decide (live open? c)) [ inl u ↦ u | inr u ↦ absurd (omega (arith, only-off (live open? c) (x c) u)) ]
 
   -- ---- the counts over a row's edges are the row's total
   abbrev in-row : ℕ → Edge → Bool
   in-row i E = ofRole (rowAt rows i .role) E && target (E .target) (rowAt rows i .qualifier)
 
-  in-row↔ : (c i : ℕ) → c < cells → So (live cells open? c) → i < length rows → in-row i (edge c) ≡ has c i
+  in-row↔ : (c i : ℕ) → c < cells → So (live open? c) → i < length rows → in-row i (edge c) ≡ has c i
   in-row↔ c i h o l = same-test _ _
       (λ u. elim (decide (has c i)) [
         | inl b ↦ b
@@ -97,10 +97,10 @@ module _ (D : Description) (A : Accepted D) (p : ℕ → Bool) (size : ℕ) (lab
 
   row-total : (i : ℕ) → i < length rows → total es (in-row i) ≡ Trees.total cells open? x (λ c. has c i)
   row-total i h = edges-total edge (in-row i) cells
-      ∙ sum-cong cells _ (λ c. only (live cells open? c && has c i) (x c)) (λ c l. part c l (decide (live cells open? c)))
+      ∙ sum-cong cells _ (λ c. only (live open? c && has c i) (x c)) (λ c l. part c l (decide (live open? c)))
     where
-      part : (c : ℕ) → c < cells → So (live cells open? c) ⊎ (So (live cells open? c) → ⊥)
-          → only (in-row i (edge c)) (only (live cells open? c) (x c)) ≡ only (live cells open? c && has c i) (x c)
+      part : (c : ℕ) → c < cells → So (live open? c) ⊎ (So (live open? c) → ⊥)
+          → only (in-row i (edge c)) (only (live open? c) (x c)) ≡ only (live open? c && has c i) (x c)
       part c l (inl o) = rw (in-row↔ c i l o h, o) refl
       part c l (inr o) = rw (so-false _ o) (only-zero (in-row i (edge c)))
 
@@ -120,7 +120,7 @@ module _ (D : Description) (A : Accepted D) (p : ℕ → Bool) (size : ℕ) (lab
           let i = has-lt (length rows) c (w .0) h (w .1) in (rowAt rows (w .0) .role, mask↔ c (rowAt rows (w .0) .role) .1 (roles-own c (w .0) i (w .1)));
       roles-in = λ r u. roles-in c r (mask↔ c r .0 u);
       roles-up = λ r _ u s _ a. mask↔ c s .1 (roles-up c r s (mask↔ c r .0 u) a);
-      some-copy = omega (arith, only-on (live cells open? c) (x c) o);
+      some-copy = omega (arith, only-on (live open? c) (x c) o);
     });
     every-ok = λ e he r l q. (
       λ u. of-cell (λ E. So (ofRole r E) → _) (λ c h o g k. (
@@ -153,9 +153,9 @@ module _ (D : Description) (A : Accepted D) (p : ℕ → Bool) (size : ℕ) (lab
   -- its edges lead to the types picked for open cells
   pub solved : (W : List Literal) → LabelOk D W L → BothOk D L
       → ((e : ℕ) → e < n → So (isRow (rowOf D (chosen p e))) → (i : ℕ) × (i < length rows) × (rowAt rows i ≡ rowFrom (rowOf D (chosen p e))))
-      → (es : List Edge) × NodeOk D size target W L es × ((E : Edge) → E ∈ es → (c : ℕ) × So (live cells open? c) × (E .target ≡ pick c))
+      → (es : List Edge) × NodeOk D size target W L es × ((E : Edge) → E ∈ es → (c : ℕ) × So (live open? c) × (E .target ≡ pick c))
   solved W lok bok there = (
     es,
     solved-node W lok bok there,
-    of-cell (λ E. (c : ℕ) × So (live cells open? c) × (E .target ≡ pick c)) (λ c h o g. (c, o, refl)),
+    of-cell (λ E. (c : ℕ) × So (live open? c) × (E .target ≡ pick c)) (λ c h o g. (c, o, refl)),
   )

@@ -53,7 +53,7 @@ module _ (n : ℕ) (open? : ℕ → Bool) where
     -- the limits on the way to a node: the rows are among them, and each open cell from j on is pinned at its size
     record Way (ls : List Limit) (j : ℕ) : Type 0 where
       rows-in : {l : Limit} → l ∈ rows → l ∈ ls
-      size : (c : ℕ) → (v : ℕ) × (j ≤ c → c < n → So (live n open? c) → Pinned ls v c)
+      size : (c : ℕ) → (v : ℕ) × (j ≤ c → c < n → So (live open? c) → Pinned ls v c)
 
     at-leaf : (ls : List Limit) → Way ls 0 → Answer ls
     at-leaf ls w = elim (kept-or-broken x rows) [ inl h ↦ inl (x, h) | inr (l, p, h) ↦ inr (close l p h) ]
@@ -69,8 +69,8 @@ module _ (n : ℕ) (open? : ℕ → Bool) where
           | inr u ↦ absurd (omega (
             arith,
             lower-le p,
-            sum-at n (λ d. only (live n open? d && k d) (x d)) c l,
-            only-on (live n open? c && k c) (x c) (so-and (live n open? c) (k c) o q),
+            sum-at n (λ d. only (live open? d && k d) (x d)) c l,
+            only-on (live open? c && k c) (x c) (so-and (live open? c) (k c) o q),
           ))
         ])
 
@@ -83,7 +83,7 @@ module _ (n : ℕ) (open? : ℕ → Bool) where
     }
 
     -- one cell more, of size v
-    way-down : (ls : List Limit) (j v : ℕ) → (So (live n open? j) → Pinned ls v j) → Way ls (suc j) → Way ls j
+    way-down : (ls : List Limit) (j v : ℕ) → (So (live open? j) → Pinned ls v j) → Way ls (suc j) → Way ls j
     way-down ls j v p w = record {
       rows-in = w .rows-in;
       size = λ c. elim (decLt j c) [
@@ -92,7 +92,7 @@ module _ (n : ℕ) (open? : ℕ → Bool) where
       ];
     }
 
-    join : (ls : List Limit) (c v : ℕ) → c < n → So (live n open? c)
+    join : (ls : List Limit) (c v : ℕ) → c < n → So (live open? c)
         → Answer (ls ++ (atMost c v ∷ [])) → Answer (ls ++ (moreThan c v ∷ [])) → Answer ls
     unfolding formed
     join ls c v l o (inl s) r = inl s
@@ -104,7 +104,7 @@ module _ (n : ℕ) (open? : ℕ → Bool) where
     )
 
     -- the splits of the cell j, from the value v up
-    chain : (j : ℕ) → j < n → So (live n open? j) → ((ls : List Limit) → Way ls j → Answer ls)
+    chain : (j : ℕ) → j < n → So (live open? j) → ((ls : List Limit) → Way ls j → Answer ls)
         → (left v : ℕ) → v + left ≡ B → (ls : List Limit) → Pin lower ls v j → Way ls (suc j) → Answer ls
     chain j l o below zero v e ls p w = below ls (way-down ls j v (λ _. (p, inr (omega arith))) w)
     chain j l o below (suc left) v e ls p w = join ls j v l o
@@ -116,7 +116,7 @@ module _ (n : ℕ) (open? : ℕ → Bool) where
 
     build : (j : ℕ) → j ≤ n → (ls : List Limit) → Way ls j → Answer ls
     build zero l ls w = at-leaf ls w
-    build (suc j) l ls w = elim (decide (live n open? j)) [
+    build (suc j) l ls w = elim (decide (live open? j)) [
       | inl o ↦ chain j l o (build j (omega arith)) B 0 (omega arith) ls (inl refl) w
       | inr o ↦ build j (omega arith) ls (way-down ls j 0 (λ u. absurd (o u)) w)
     ]

@@ -117,8 +117,8 @@ leaf-scaled : (n : ℕ) (open? : ℕ → Bool) (d : ℕ) → 0 < d → (ls : Lis
     → LeafCloses n open? ls ms → LeafCloses n open? (scaled d ls) ms
 leaf-scaled n open? d z ls ms h = record {
   balanced = λ c l o. rw (scaled-weight d lower c ls ms, scaled-weight d upper c ls ms) (h .balanced c l o);
-  gains = gap↔ (scaled d ls) ms .1
-      (omega (arith, scaled-worth d lower ls ms, scaled-worth d upper ls ms, mul-le-mul-left d (gap↔ ls ms .0 (h .gains))));
+  above-zero = gap↔ (scaled d ls) ms .1
+      (omega (arith, scaled-worth d lower ls ms, scaled-worth d upper ls ms, mul-le-mul-left d (gap↔ ls ms .0 (h .above-zero))));
 }
 
 -- ---- exactly one A, one B and one C, where each filler has exactly two of them: halves solve it, whole numbers do not

@@ -123,7 +123,7 @@ module _ (n : ℕ) (open? : ℕ → Bool) (ls : List Limit) where
   record Combination (s : Side) (w : ℕ → ℕ) (b : ℕ) : Type 0 where
     ms : List ℕ
     long : length ms ≡ length ls
-    weighs : (c : ℕ) → c < n → So (live n open? c) → Meets (other s) (w c) (weights s ms c)
+    weighs : (c : ℕ) → c < n → So (live open? c) → Meets (other s) (w c) (weights s ms c)
     worths : tally (price s) ls ms ≡ b
     no-weight : (c : ℕ) → weights (other s) ms c ≡ 0
     no-worth : tally (price (other s)) ls ms ≡ 0
@@ -159,7 +159,7 @@ module _ (n : ℕ) (open? : ℕ → Bool) (ls : List Limit) where
   }
 
   -- other weights that are as good in the open cells
-  weaker : (s : Side) (v w : ℕ → ℕ) (b : ℕ) → ((c : ℕ) → c < n → So (live n open? c) → Meets (other s) (v c) (w c))
+  weaker : (s : Side) (v w : ℕ → ℕ) (b : ℕ) → ((c : ℕ) → c < n → So (live open? c) → Meets (other s) (v c) (w c))
       → Combination s w b → Combination s v b
   weaker s v w b h p = record {
     ms = p .ms;
@@ -192,7 +192,7 @@ module _ (n : ℕ) (open? : ℕ → Bool) (ls : List Limit) where
         q .no-weight c,
         q .weighs c l o,
       ));
-      gains = gap↔ ls ms .1 (rw (worth-tally lower ls ms, worth-tally upper ls ms) (omega (
+      above-zero = gap↔ ls ms .1 (rw (worth-tally lower ls ms, worth-tally upper ls ms) (omega (
         arith,
         tally-plus _ (price-add lower) ls (p .ms) (q .ms),
         tally-plus _ (price-add upper) ls (p .ms) (q .ms),
@@ -212,22 +212,22 @@ module _ (n : ℕ) (open? : ℕ → Bool) (ls : List Limit) where
   pin upper v c p = one upper v (eqb c) p
 
   -- the pins of the open cells that k counts
-  pins : (s : Side) (k : ℕ → Bool) (x : ℕ → ℕ) → ((c : ℕ) → c < n → So (live n open? c) → So (k c) → Pin s ls (x c) c)
+  pins : (s : Side) (k : ℕ → Bool) (x : ℕ → ℕ) → ((c : ℕ) → c < n → So (live open? c) → So (k c) → Pin s ls (x c) c)
       → Combination s (λ c. only (k c) 1) (total n open? x k)
   pins s k x h = weaker s _ _ _ (λ c l o. subst (Meets (other s) (only (k c) 1)) (sym (once c l o)) (meets-refl (other s) (only (k c) 1)))
-      (many s (λ i c. only (live n open? i && k i) (only (eqb i c) 1)) (λ i. only (live n open? i && k i) (x i)) n each)
+      (many s (λ i c. only (live open? i && k i) (only (eqb i c) 1)) (λ i. only (live open? i && k i) (x i)) n each)
     where
-      each : (i : ℕ) → i < n → Combination s (λ c. only (live n open? i && k i) (only (eqb i c) 1)) (only (live n open? i && k i) (x i))
-      each i l = elim (decide (live n open? i && k i)) [
-        | inl u ↦ rw u (pin s (x i) i (h i l (and-l (live n open? i) (k i) u) (and-r (live n open? i) (k i) u)))
+      each : (i : ℕ) → i < n → Combination s (λ c. only (live open? i && k i) (only (eqb i c) 1)) (only (live open? i && k i) (x i))
+      each i l = elim (decide (live open? i && k i)) [
+        | inl u ↦ rw u (pin s (x i) i (h i l (and-l (live open? i) (k i) u) (and-r (live open? i) (k i) u)))
         | inr u ↦ rw (so-false _ u) (none s)
       ]
 
-      once : (c : ℕ) → c < n → So (live n open? c) → sumBelow n (λ i. only (live n open? i && k i) (only (eqb i c) 1)) ≡ only (k c) 1
-      once c l o = sum-one n _ c l (λ i _ ne. rw (only-off (eqb i c) 1 (λ t. ne (so-eqb i c t))) (only-zero (live n open? i && k i))) ∙ rw (eqb-so c, o)
+      once : (c : ℕ) → c < n → So (live open? c) → sumBelow n (λ i. only (live open? i && k i) (only (eqb i c) 1)) ≡ only (k c) 1
+      once c l o = sum-one n _ c l (λ i _ ne. rw (only-off (eqb i c) 1 (λ t. ne (so-eqb i c t))) (only-zero (live open? i && k i))) ∙ rw (eqb-so c, o)
 
   -- a limit that the sizes x break, against the pins of its cells
   pub broken-closes : (s : Side) (b : ℕ) (k : ℕ → Bool) (x : ℕ → ℕ) → limit s b k ∈ ls → (Meets s b (total n open? x k) → ⊥)
-      → ((c : ℕ) → c < n → So (live n open? c) → So (k c) → Pin (other s) ls (x c) c) → ClosingTree n open? ls
+      → ((c : ℕ) → c < n → So (live open? c) → So (k c) → Pin (other s) ls (x c) c) → ClosingTree n open? ls
   broken-closes lower b k x p h q = clash _ _ _ (one lower b k p) (pins upper k x q) (omega arith)
   broken-closes upper b k x p h q = clash _ _ _ (pins lower k x q) (one upper b k p) (omega arith)

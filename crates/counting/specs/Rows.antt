@@ -24,7 +24,7 @@ MeetAll rows t = (i : ℕ) → i < length rows → Meets (boundAt rows i .side) 
 abbrev pub Solves : List Bound → (ℕ → Bool) → (ℕ → ℕ) → Type 0
 Solves rows open? x = MeetAll rows (λ i. total (2 ^ length rows) open? x (λ c. has c i))
 
--- a finite set of fillers, each known only by the rows that it counts in and each outside the cells shown empty, that meets every row
+-- finitely many fillers, told apart only by the rows they count in; none is in a shut cell, and together they meet the rows
 pub record Fillers (rows : List Bound) (open? : ℕ → Bool) : Type 0 where
   pub count : ℕ
   pub counts : ℕ → ℕ → Bool

@@ -32,7 +32,7 @@ cut-sum q b (suc n) = omega (arith, cut-sum q b n)
 
 module _ (n : ℕ) (open? : ℕ → Bool) where
   total-mono : (x y : ℕ → ℕ) → ((c : ℕ) → x c ≤ y c) → (k : ℕ → Bool) → total n open? x k ≤ total n open? y k
-  total-mono x y h k = sum-le n _ _ (λ c _. point (live n open? c && k c) (h c))
+  total-mono x y h k = sum-le n _ _ (λ c _. point (live open? c && k c) (h c))
     where
       point : (g : Bool) {p q : ℕ} → p ≤ q → only g p ≤ only g q
       point true h = h
@@ -57,13 +57,13 @@ module _ (n : ℕ) (open? : ℕ → Bool) where
   small (limit lower b k ∷ ls) x h = go (small ls x (h .1))
     where
       q : ℕ → ℕ
-      q c = only (live n open? c && k c) (x c)
+      q c = only (live open? c && k c) (x c)
 
       taken : ℕ → ℕ
       taken = cut q b
 
       taken-total : total n open? taken k ≡ sumBelow n taken
-      taken-total = sum-cong n _ taken (λ c _. point (live n open? c && k c) (x c) (taken c) (cut-le q b c))
+      taken-total = sum-cong n _ taken (λ c _. point (live open? c && k c) (x c) (taken c) (cut-le q b c))
         where
           point : (g : Bool) (a d : ℕ) → d ≤ only g a → only g d ≡ d
           point true a d h = refl
@@ -81,4 +81,4 @@ module _ (n : ℕ) (open? : ℕ → Bool) where
           z c = max (taken c) (y c)
 
           z-le : (c : ℕ) → z c ≤ x c
-          z-le c = omega (arith, cut-le q b c, only-le (live n open? c && k c) (x c), le c)
+          z-le c = omega (arith, cut-le q b c, only-le (live open? c && k c) (x c), le c)

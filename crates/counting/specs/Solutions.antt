@@ -103,14 +103,14 @@ module _ (rows : List Bound) (open? : ℕ → Bool) where
       count = sumBelow cells s;
       counts = λ y i. has (cellAt s cells y) i;
       outside = λ y l z. let w = cellAt-in s cells y l in rw (setOf-has (length rows) (cellAt s cells y) (w .0))
-          (live↔ cells open? (cellAt s cells y) .0 (only-pos (live cells open? (cellAt s cells y)) _ (w .1)) .1);
-      meets = λ i l. rw (count-cellAt s (λ c. has c i) cells, sum-cong cells _ _ (λ c _. swap (live cells open? c) (has c i) (x c))) (h i l);
+          (live↔ cells open? (cellAt s cells y) .0 (only-pos (live open? (cellAt s cells y)) _ (w .1)) .1);
+      meets = λ i l. rw (count-cellAt s (λ c. has c i) cells, sum-cong cells _ _ (λ c _. swap (live open? c) (has c i) (x c))) (h i l);
     },
-    sum-le cells s x (λ c _. only-le (live cells open? c) (x c)),
+    sum-le cells s x (λ c _. only-le (live open? c) (x c)),
   )
     where
       s : ℕ → ℕ
-      s c = only (live cells open? c) (x c)
+      s c = only (live open? c) (x c)
 
       only-pos : (b : Bool) (a : ℕ) → 0 < only b a → So b
       only-pos true a h = refl
@@ -137,20 +137,20 @@ module _ (rows : List Bound) (open? : ℕ → Bool) where
         own y = has-setOf (length rows) (F .counts y) i l
 
         -- a filler that counts in row i is in an open cell with bit i
-        open-cell : (y : ℕ) → y < F .count → So (F .counts y i) → So (live cells open? (cellOf y) && has (cellOf y) i)
+        open-cell : (y : ℕ) → y < F .count → So (F .counts y i) → So (live open? (cellOf y) && has (cellOf y) i)
         open-cell y h e = let z = has-pos (cellOf y) i (own y ∙ e) in
             so-and _ _ (live↔ cells open? (cellOf y) .1 (z, F .outside y h z)) (own y ∙ e)
 
-        part : (c : ℕ) → only (live cells open? c && has c i) (sizes c) ≡ countBelow (F .count) (λ y. eqb (cellOf y) c && F .counts y i)
-        part c = elim (decide (live cells open? c && has c i)) [
+        part : (c : ℕ) → only (live open? c && has c i) (sizes c) ≡ countBelow (F .count) (λ y. eqb (cellOf y) c && F .counts y i)
+        part c = elim (decide (live open? c && has c i)) [
           | inl u ↦ rw u (count-eq (F .count) (λ y. eqb (cellOf y) c) _
-              (λ y _ e. so-and (eqb (cellOf y) c) _ e (sym (own y) ∙ ap (λ c. has c i) (so-eqb (cellOf y) c e) ∙ and-r (live cells open? c) _ u))
+              (λ y _ e. so-and (eqb (cellOf y) c) _ e (sym (own y) ∙ ap (λ c. has c i) (so-eqb (cellOf y) c e) ∙ and-r (live open? c) _ u))
               (λ y _ e. and-l (eqb (cellOf y) c) _ e))
           | inr u ↦ rw (so-false _ u) (sym (sum-zero (F .count) _ (λ y h. only-off (eqb (cellOf y) c && F .counts y i) 1 (λ e.
               u (rw (so-eqb (cellOf y) c (and-l (eqb (cellOf y) c) _ e)) at (open-cell y h (and-r (eqb (cellOf y) c) _ e)))))))
         ]
 
-  -- 00, demand 2: a whole-number solution over the open cells exactly if some finite set of fillers meets every row
+  -- 00, demand 2, its last sentence
   pub fillers : ((x : ℕ → ℕ) × Solves rows open? x) ↔ Fillers rows open?
   fillers = (λ (x, h). solution-fillers x h .0, λ F. (sizes F, λ i l. rw (total-sizes F i l) (F .meets i l)))
 

@@ -42,15 +42,15 @@ meets-add upper a b c d h k = omega arith
 
 module _ (n : ℕ) (open? : ℕ → Bool) where
   -- ---- the tests are the statements
-  pub live↔ : (c : ℕ) → So (live n open? c) ↔ ((0 < c) × So (open? c))
+  pub live↔ : (c : ℕ) → So (live open? c) ↔ ((0 < c) × So (open? c))
   live↔ c = simp reading Iff·rfl
 
   pub leaf↔ : (ls : List Limit) (ms : List ℕ) → So (leafTest n open? ls ms) ↔ LeafCloses n open? ls ms
   unfolding leafTest
-  leaf↔ ls ms = (λ h. let e = both .0 h in record { balanced = e .0; gains = e .1 }, λ h. both .1 (h .balanced, h .gains))
+  leaf↔ ls ms = (λ h. let e = both .0 h in record { balanced = e .0; above-zero = e .1 }, λ h. both .1 (h .balanced, h .above-zero))
     where
       both : So (leafTest n open? ls ms)
-          ↔ (((c : ℕ) → c < n → So (live n open? c) → weight lower ls ms c ≤ weight upper ls ms c) × So (ltZ (pos 0) (gap ls ms)))
+          ↔ (((c : ℕ) → c < n → So (live open? c) → weight lower ls ms c ≤ weight upper ls ms c) × So (ltZ (pos 0) (gap ls ms)))
       both = simp below Iff·rfl
 
   pub tree↔ : (fits : ℕ → Bool) (ls : List Limit) (t : Tree) → So (treeTest n open? fits ls t) ↔ (TreeCloses n open? ls t × ValuesFit fits t)
@@ -58,7 +58,7 @@ module _ (n : ℕ) (open? : ℕ → Bool) where
   tree↔ fits ls (leaf ms) = (λ h. (leaf↔ ls ms .0 h, tt), λ h. leaf↔ ls ms .1 (h .0))
   tree↔ fits ls (split c v l r) = let low = ls ++ (atMost c v ∷ []) in let high = ls ++ (moreThan c v ∷ []) in
       let p = tree↔ fits low l in let q = tree↔ fits high r in
-      let e = parts (ltb c n) (live n open? c) (fits v) (treeTest n open? fits low l) (treeTest n open? fits high r) in (
+      let e = parts (ltb c n) (live open? c) (fits v) (treeTest n open? fits low l) (treeTest n open? fits high r) in (
         λ h. let g = e .0 h in let a = p .0 (g .1 .0) in let b = q .0 (g .1 .1) in
             ((so-ltb c n (g .0 .0), g .0 .1 .0, a .0, b .0), (g .0 .1 .1, a .1, b .1)),
         λ h. e .1 ((ltb-so c n (h .0 .0), (h .0 .1, h .1 .0)), (p .1 (h .0 .2, h .1 .1), q .1 (h .0 .3, h .1 .2))),
@@ -70,10 +70,10 @@ module _ (n : ℕ) (open? : ℕ → Bool) where
   -- ---- soundness
   -- the sizes of the open cells, each times its weight, added up
   abbrev weighed : (ℕ → ℕ) → (ℕ → ℕ) → ℕ
-  weighed x w = sumBelow n (λ c. only (live n open? c) (x c) * w c)
+  weighed x w = sumBelow n (λ c. only (live open? c) (x c) * w c)
 
   weighed-add : (x v w : ℕ → ℕ) → weighed x (λ c. v c + w c) ≡ weighed x v + weighed x w
-  weighed-add x v w = sum-cong n _ (λ c. only (live n open? c) (x c) * v c + only (live n open? c) (x c) * w c) (λ c l. omega arith) ∙ sum-add n _ _
+  weighed-add x v w = sum-cong n _ (λ c. only (live open? c) (x c) * v c + only (live open? c) (x c) * w c) (λ c l. omega arith) ∙ sum-add n _ _
 
   weighed-zero : (x : ℕ → ℕ) → weighed x (λ c. 0) ≡ 0
   weighed-zero x = sum-zero n _ (λ c l. omega arith)
@@ -90,7 +90,7 @@ module _ (n : ℕ) (open? : ℕ → Bool) where
       point false false q a = refl
 
       spread : weighed x (share s (limit r b k) m) ≡ only (sameSide s r) m * total n open? x k
-      spread = sum-cong n _ _ (λ c l. point (sameSide s r) (live n open? c) (k c) (x c)) ∙ sum-mul n (only (sameSide s r) m) _
+      spread = sum-cong n _ _ (λ c l. point (sameSide s r) (live open? c) (k c) (x c)) ∙ sum-mul n (only (sameSide s r) m) _
 
       times : (s r : Side) (t : ℕ) → Meets r b t → Meets s (only (sameSide s r) (m * b)) (only (sameSide s r) m * t)
       times lower lower t h = mul-le-mul-left m h
@@ -108,10 +108,10 @@ module _ (n : ℕ) (open? : ℕ → Bool) where
   leaf-sound : (ls : List Limit) (ms : List ℕ) → LeafCloses n open? ls ms → (x : ℕ → ℕ) → HoldAll n open? ls x → ⊥
   leaf-sound ls ms h x k = omega (
     arith,
-    gap↔ ls ms .0 (h .gains),
+    gap↔ ls ms .0 (h .above-zero),
     weighed-all lower ls ms x k,
     weighed-all upper ls ms x k,
-    sum-le n (λ c. only (live n open? c) (x c) * weight lower ls ms c) _ (λ c l. point (live n open? c) (x c) _ _ (h .balanced c l)),
+    sum-le n (λ c. only (live open? c) (x c) * weight lower ls ms c) _ (λ c l. point (live open? c) (x c) _ _ (h .balanced c l)),
   )
     where
       point : (o : Bool) (a p q : ℕ) → (So o → p ≤ q) → only o a * p ≤ only o a * q
@@ -119,9 +119,9 @@ module _ (n : ℕ) (open? : ℕ → Bool) where
       point false a p q t = omega arith
 
   -- a split bounds one size: the total of one open cell is its size
-  total-one : (x : ℕ → ℕ) (c : ℕ) → c < n → So (live n open? c) → total n open? x (eqb c) ≡ x c
-  total-one x c l o = sum-one n _ c l (λ d _ ne. only-off (live n open? d && eqb c d) (x d) (λ t. ne (sym (so-eqb c d (and-r (live n open? d) _ t)))))
-      ∙ only-on (live n open? c && eqb c c) (x c) (so-and (live n open? c) _ o (eqb-so c))
+  total-one : (x : ℕ → ℕ) (c : ℕ) → c < n → So (live open? c) → total n open? x (eqb c) ≡ x c
+  total-one x c l o = sum-one n _ c l (λ d _ ne. only-off (live open? d && eqb c d) (x d) (λ t. ne (sym (so-eqb c d (and-r (live open? d) _ t)))))
+      ∙ only-on (live open? c && eqb c c) (x c) (so-and (live open? c) _ o (eqb-so c))
 
   hold-snoc : (x : ℕ → ℕ) (ls : List Limit) (l : Limit) → HoldAll n open? ls x → Holds n open? x l → HoldAll n open? (ls ++ (l ∷ [])) x
   hold-snoc x [] l h k = (k, tt)
@@ -140,7 +140,7 @@ module _ (n : ℕ) (open? : ℕ → Bool) where
       → TreeCloses n open? ls t → TreeCloses n open′ ls t
   tree-open open′ e ls (leaf ms) h = record {
     balanced = λ c l o. h .balanced c l (rw (e c l (so-ltb 0 c (and-l (ltb 0 c) (open′ c) o))) at o);
-    gains = h .gains;
+    above-zero = h .above-zero;
   }
   tree-open open′ e ls (split c v l r) h = (
     h .0,

@@ -36,8 +36,8 @@ atMost c v = limit upper v (eqb c)
 abbrev pub moreThan : ℕ → ℕ → Limit
 moreThan c v = limit lower (suc v) (eqb c)
 
--- a leaf holds its multipliers, one a row in row order and then one for each split above it from the top;
--- a split holds its cell, its value, its half with at most that value and its half with more
+-- a leaf holds a multiplier for each limit on its way: the rows, then the halves of the splits passed, outermost first;
+-- a split holds its cell, its value, and the trees of its two halves
 pub data Tree : Type 0 where
   leaf : List ℕ → Tree
   split : (c v : ℕ) → Tree → Tree → Tree
@@ -49,30 +49,30 @@ share s (limit r b k) m c = only (sameSide s r && k c) m
 abbrev pub price : Side → Limit → ℕ → ℕ
 price s (limit r b k) m = only (sameSide s r) (m * b)
 
--- the multipliers of the limits on the side s that count the cell c, added up
+-- the coefficient of cell c on the side s: the multipliers of the limits there that count it, added up
 abbrev pub weight : Side → List Limit → List ℕ → ℕ → ℕ
 weight s [] ms c = 0
 weight s (l ∷ ls) [] c = 0
 weight s (l ∷ ls) (m ∷ ms) c = share s l m c + weight s ls ms c
 
--- multiplier times bound over the limits on the side s, added up
+-- the total of the side s (01: lower total, upper total): its bounds, each by its multiplier, added up
 abbrev pub worth : Side → List Limit → List ℕ → ℕ
 worth s [] ms = 0
 worth s (l ∷ ls) [] = 0
 worth s (l ∷ ls) (m ∷ ms) = price s l m + worth s ls ms
 
--- a leaf's gap: lower total less upper total, which may be zero or negative
+-- a leaf's gap as an integer: what the lower total has more than the upper, or less
 abbrev pub gap : List Limit → List ℕ → ℤ
 gap ls ms = subℕ (worth lower ls ms) (worth upper ls ms)
 
-module _ (n : ℕ) (open? : ℕ → Bool) where
-  -- an open cell; cell 0, the fillers that count in no row, is none
-  abbrev pub live : ℕ → Bool
-  live c = ltb 0 c && open? c
+-- an open cell; cell 0, the fillers that count in no row, is none
+abbrev pub live : (ℕ → Bool) → ℕ → Bool
+live open? c = ltb 0 c && open? c
 
+module _ (n : ℕ) (open? : ℕ → Bool) where
   -- the sizes x of the open cells that k counts, added up
   abbrev pub total : (ℕ → ℕ) → (ℕ → Bool) → ℕ
-  total x k = sumBelow n (λ c. only (live c && k c) (x c))
+  total x k = sumBelow n (λ c. only (live open? c && k c) (x c))
 
   abbrev pub Holds : (ℕ → ℕ) → Limit → Type 0
   Holds x (limit s b k) = Meets s b (total x k)
@@ -82,23 +82,23 @@ module _ (n : ℕ) (open? : ℕ → Bool) where
   HoldAll [] x = Unit {0}
   HoldAll (l ∷ ls) x = Holds x l × HoldAll ls x
 
-  -- a leaf closes: in each open cell the lower multipliers total no more than the upper ones, and the gap is above zero
+  -- a leaf closes: no open cell weighs more on the lower side, and yet the lower total is the greater
   pub record LeafCloses (ls : List Limit) (ms : List ℕ) : Type 0 where
-    pub balanced : (c : ℕ) → c < n → So (live c) → weight lower ls ms c ≤ weight upper ls ms c
-    pub gains : So (ltZ (pos 0) (gap ls ms))
+    pub balanced : (c : ℕ) → c < n → So (live open? c) → weight lower ls ms c ≤ weight upper ls ms c
+    pub above-zero : So (ltZ (pos 0) (gap ls ms))
 
   -- a tree closes: each split is of an open cell, and every leaf closes under the limits on its way
   abbrev pub TreeCloses : List Limit → Tree → Type 0
   TreeCloses ls (leaf ms) = LeafCloses ls ms
-  TreeCloses ls (split c v l r) = (c < n) × So (live c) × TreeCloses (ls ++ (atMost c v ∷ [])) l × TreeCloses (ls ++ (moreThan c v ∷ [])) r
+  TreeCloses ls (split c v l r) = (c < n) × So (live open? c) × TreeCloses (ls ++ (atMost c v ∷ [])) l × TreeCloses (ls ++ (moreThan c v ∷ [])) r
 
   -- the test, with a limit on the values of splits
   unfoldable pub leafTest : List Limit → List ℕ → Bool
-  leafTest ls ms = allBelow n (λ c. live c ⇒ leb (weight lower ls ms c) (weight upper ls ms c)) && ltZ (pos 0) (gap ls ms)
+  leafTest ls ms = allBelow n (λ c. live open? c ⇒ leb (weight lower ls ms c) (weight upper ls ms c)) && ltZ (pos 0) (gap ls ms)
 
   unfoldable pub treeTest : (ℕ → Bool) → List Limit → Tree → Bool
   treeTest fits ls (leaf ms) = leafTest ls ms
-  treeTest fits ls (split c v l r) = (ltb c n && (live c && fits v))
+  treeTest fits ls (split c v l r) = (ltb c n && (live open? c && fits v))
       && (treeTest fits (ls ++ (atMost c v ∷ [])) l && treeTest fits (ls ++ (moreThan c v ∷ [])) r)
 
 -- every split's value is within the limit

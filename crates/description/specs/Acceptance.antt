@@ -1,10 +1,10 @@
 -- When a description is accepted: tests 3 to 8 of the table of refusals (FORMAT 3), stated and as tests in the table's order.
--- Each test is made of tests of one item against the table. What only bytes can get wrong (the transitive byte, an unknown
--- kind, a field that is not used, the lengths of parts) is tested where bytes are read.
+-- Each test is made of tests of one item against the table. What only bytes can get wrong of a role (its transitive byte) and of an
+-- entry (an unknown kind, a field that is not used) belongs to 3 and 4 and comes in as two further tests, one of each.
 use Prim.Native.Nat.{ℕ, zero, suc, _≤_, _<_}
 use mathlib.Core.Path.{_≡_, refl, sym, _∙_, subst}
 use mathlib.Core.Logic.{_↔_, _≢_, Iff·rfl}
-use mathlib.Core.Bool.{Bool, not, _&&_}
+use mathlib.Core.Bool.{Bool, true, not, _&&_}
 use mathlib.Core.Option.{Option, none}
 use native.Mathlib.Omega.{arith}
 use native.Mathlib.Decide.{decLt}
@@ -31,11 +31,11 @@ EntryOk D e (every r l) = (r < D .roles) × (entryOf l < e)
 EntryOk D e (atLeast r l n) = ((r < D .roles) × (entryOf l < e)) × ((1 ≤ n) × (n ≤ greatestNumber))
 
 -- 7, of "every R l": for each transitive T with ancestor R there is an "every T l", anywhere in the table
-abbrev pub Passed : Description → ℕ → Literal → Type 0
-Passed D r l = (t : ℕ) → t < D .roles → So (D .transitive t) → So (ancestor D t r) → (f : ℕ) × (f < D .entries) × (every t l ≡ D .entry f)
+abbrev pub EveryBelow : Description → ℕ → Literal → Type 0
+EveryBelow D r l = (t : ℕ) → t < D .roles → So (D .transitive t) → So (ancestor D t r) → (f : ℕ) × (f < D .entries) × (every t l ≡ D .entry f)
 
 pub record Accepted (D : Description) : Type 0 where
-  -- 2, of which the theory needs no more: there is a role and an entry
+  -- 2, in part: there is a role and an entry (the greatest sizes are the byte level's)
   pub some-role : 1 ≤ D .roles
   pub some-entry : 1 ≤ D .entries
   -- 3: no parent bit past the last role
@@ -47,7 +47,7 @@ pub record Accepted (D : Description) : Type 0 where
   -- 6: of kinds 2 to 4, no entry has all fields as an earlier one
   pub distinct : (f : ℕ) → f < D .entries → (e : ℕ) → e < f → So (compound (D .entry e)) → D .entry e ≢ D .entry f
   -- 7
-  pub passes : (e : ℕ) → e < D .entries → (r : ℕ) (l : Literal) → D .entry e ≡ every r l → Passed D r l
+  pub everys-below : (e : ℕ) → e < D .entries → (r : ℕ) (l : Literal) → D .entry e ≡ every r l → EveryBelow D r l
   -- 8: the root and the rules are literals of the table
   pub root-in : entryOf (D .root) < D .entries
   pub rules-in : (i : ℕ) → i < D .rules → entryOf (D .rule i) < D .entries
@@ -74,22 +74,26 @@ abbrev pub distinctTest : Description → ℕ → Entry → Bool
 distinctTest D f x = allBelow f (λ e. compound (D .entry e) ⇒ not (sameEntry (D .entry e) x))
 
 -- 7, of one entry
-abbrev pub passedTest : Description → Entry → Bool
-passedTest D = ifEvery (λ r l. allBelow (D .roles) (λ t. D .transitive t ⇒ (ancestor D t r ⇒ anyBelow (D .entries) (λ f. sameEntry (every t l) (D .entry f)))))
+abbrev pub everyBelowTest : Description → Entry → Bool
+everyBelowTest D = ifEvery (λ r l. allBelow (D .roles) (λ t. D .transitive t ⇒ (ancestor D t r ⇒ anyBelow (D .entries) (λ f. sameEntry (every t l) (D .entry f)))))
 
 -- 8, of one literal
 abbrev pub literalTest : Description → Literal → Bool
 literalTest D l = ltb (entryOf l) (D .entries)
 
--- the first of 3 to 8 that refuses, each over the whole description
-unfoldable pub descriptionRefusal : Description → Option ℕ
-descriptionRefusal D =
-    unless (allBelow (D .roles) (roleTest D)) 3
-    (unless (allBelow (D .entries) (λ e. entryTest D e (D .entry e))) 4
+-- the first of 3 to 8 that refuses, each over the whole description; the forms are what bytes add to 3 and 4
+unfoldable pub descriptionTests : (ℕ → Bool) → (ℕ → Bool) → Description → Option ℕ
+descriptionTests roleForm entryForm D =
+    unless (allBelow (D .roles) (λ r. roleForm r && roleTest D r)) 3
+    (unless (allBelow (D .entries) (λ e. entryForm e && entryTest D e (D .entry e))) 4
     (unless (allBelow (D .entries) (λ e. simpleTest D (D .entry e))) 5
     (unless (allBelow (D .entries) (λ f. distinctTest D f (D .entry f))) 6
-    (unless (allBelow (D .entries) (λ e. passedTest D (D .entry e))) 7
+    (unless (allBelow (D .entries) (λ e. everyBelowTest D (D .entry e))) 7
     (unless (literalTest D (D .root) && allBelow (D .rules) (λ i. literalTest D (D .rule i))) 8 none)))))
+
+-- lifted: no bytes
+abbrev pub descriptionRefusal : Description → Option ℕ
+descriptionRefusal D = descriptionTests (λ r. true) (λ e. true) D
 
 -- ---- the tests say what they should
 pub entry↔ : (D : Description) (e : ℕ) (x : Entry) → So (entryTest D e x) ↔ EntryOk D e x
@@ -100,23 +104,44 @@ entry↔ D e (both a b) = simp reading Iff·rfl
 entry↔ D e (every r l) = simp reading Iff·rfl
 entry↔ D e (atLeast r l n) = simp reading Iff·rfl
 
--- refused by none of 3 to 8 exactly if accepted
-pub accepted↔ : (D : Description) → 1 ≤ D .roles → 1 ≤ D .entries → (descriptionRefusal D ≡ none) ↔ Accepted D
-unfolding descriptionRefusal
-accepted↔ D h1 h2 = simp (unless↔, below, kinds, narrow↔, entry↔) (
-  λ t. record {
-    some-role = h1;
-    some-entry = h2;
-    parents-in = t .0;
-    fields = t .1 .0;
-    simples = t .1 .1 .0;
-    distinct = t .1 .1 .1 .0;
-    passes = t .1 .1 .1 .1 .0;
-    root-in = t .1 .1 .1 .1 .1 .0 .0;
-    rules-in = t .1 .1 .1 .1 .1 .0 .1;
-  },
-  λ A. (A .parents-in, (A .fields, (A .simples, (A .distinct, (A .passes, ((A .root-in, A .rules-in), refl)))))),
+-- with a role and an entry, refused by none of 3 to 8 exactly if accepted and of the forms
+pub formed↔ : (roleForm entryForm : ℕ → Bool) (D : Description)
+    → ((1 ≤ D .roles) × ((1 ≤ D .entries) × (descriptionTests roleForm entryForm D ≡ none)))
+    ↔ (Accepted D × (((r : ℕ) → r < D .roles → So (roleForm r)) × ((e : ℕ) → e < D .entries → So (entryForm e))))
+unfolding descriptionTests
+formed↔ roleForm entryForm D = simp (unless↔, below, kinds, narrow↔, entry↔) (
+  λ (h1, (h2, t)). (
+    record {
+      some-role = h1;
+      some-entry = h2;
+      parents-in = λ r l. t .0 r l .1;
+      fields = λ e l. t .1 .0 e l .1;
+      simples = t .1 .1 .0;
+      distinct = t .1 .1 .1 .0;
+      everys-below = t .1 .1 .1 .1 .0;
+      root-in = t .1 .1 .1 .1 .1 .0 .0;
+      rules-in = t .1 .1 .1 .1 .1 .0 .1;
+    },
+    (λ r l. t .0 r l .0, λ e l. t .1 .0 e l .0),
+  ),
+  λ (A, (f, g)). (
+    A .some-role,
+    (
+      A .some-entry,
+      (
+        λ r l. (f r l, A .parents-in r l),
+        (
+          λ e l. (g e l, A .fields e l),
+          (A .simples, (A .distinct, (A .everys-below, ((A .root-in, A .rules-in), refl)))),
+        ),
+      ),
+    ),
+  ),
 )
+
+-- lifted: exactly if accepted
+pub accepted↔ : (D : Description) → ((1 ≤ D .roles) × ((1 ≤ D .entries) × (descriptionRefusal D ≡ none))) ↔ Accepted D
+accepted↔ D = (λ h. formed↔ (λ r. true) (λ e. true) D .0 h .0, λ A. formed↔ (λ r. true) (λ e. true) D .1 (A, (λ r l. refl, λ e l. refl)))
 
 -- ---- what follows
 module _ (D : Description) (A : Accepted D) where

@@ -9,7 +9,7 @@ use Rattle.logic.specs.Tests.{So, so-and, eqb-so, reading}
 use Rattle.logic.specs.Sets.{has}
 use Rattle.description.specs.Literals.{Literal, code, literal, literal-code}
 
--- kinds 0 to 4; "some" and "at most m" are the complements of an "every" and of an "at least m + 1"
+-- kinds 0 to 4: ⊤, a concept name, a ⊓ b, ∀R.l, ≥n R.l; ∃R.l and ≤m R.l are complements of entries
 pub data Entry : Type 0 where
   top name : Entry
   both : (first second : Literal) → Entry
@@ -30,14 +30,6 @@ pub record Description : Type 0 where
 
 abbrev pub included : Description → ℕ → ℕ → Bool
 included D r s = has (D .parents r) s
-
--- kinds 2 to 4
-abbrev pub compound : Entry → Bool
-compound top = false
-compound name = false
-compound (both a b) = true
-compound (every r l) = true
-compound (atLeast r l n) = true
 
 abbrev pub isName : Entry → Bool
 isName top = false
@@ -115,6 +107,10 @@ byKind o f g h name = o
 byKind o f g h (both a b) = f a b
 byKind o f g h (every r l) = g r l
 byKind o f g h (atLeast r l n) = h r l n
+
+-- kinds 2 to 4
+abbrev pub compound : Entry → Bool
+compound = byKind false (λ a b. true) (λ r l. true) (λ r l n. true)
 
 -- a test of the entries of one kind, which any other entry passes
 unfoldable pub ifBoth : (Literal → Literal → Bool) → Entry → Bool

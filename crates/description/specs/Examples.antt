@@ -12,7 +12,7 @@ use Rattle.logic.specs.Sets.{has, narrow}
 use Rattle.description.specs.Literals.{Literal, pos, literal}
 use Rattle.description.specs.Descriptions.{Entry, top, name, both, every, atLeast, Description, sameEntry, ifEvery, ifLeast}
 use Rattle.description.specs.Roles.{ancestor, simple}
-use Rattle.description.specs.Acceptance.{entryTest, descriptionRefusal}
+use Rattle.description.specs.Acceptance.{entryTest, descriptionRefusal, descriptionTests}
 
 -- ---- a description from lists
 pub record Role : Type 0 where
@@ -137,7 +137,7 @@ trials =
     ∷ []
 
 trials-hold : map (λ t. descriptionRefusal (t .given)) trials ≡ map (λ t. t .answer) trials
-unfolding trials descriptionRefusal allBelow anyBelow narrow entryTest literal ifLeast ifEvery simple ancestor closure has sameEntry
+unfolding trials descriptionTests allBelow anyBelow narrow entryTest literal ifLeast ifEvery simple ancestor closure has sameEntry
 trials-hold = refl
 
 -- ---- ancestors, and simple roles

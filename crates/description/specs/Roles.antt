@@ -10,11 +10,11 @@ use Rattle.logic.specs.Bounded.{allBelow}
 use Rattle.logic.specs.Closure.{closure, closure-base, closure-ind, closure-trans}
 use Rattle.description.specs.Descriptions.{Description, included}
 
--- the ancestors of r: itself and all reached through parents
+-- s is an ancestor of r: r ⊑* s, by no inclusion or by several
 unfoldable pub ancestor : Description → ℕ → ℕ → Bool
 ancestor D r s = eqb r s || closure (D .roles) (included D) r s
 
--- no transitive role has s as ancestor, itself included
+-- s is simple: it lies above no transitive role
 unfoldable pub simple : Description → ℕ → Bool
 simple D s = allBelow (D .roles) (λ t. not (D .transitive t && ancestor D t s))
 

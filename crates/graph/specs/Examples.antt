@@ -16,7 +16,7 @@ use Rattle.logic.specs.Refusals.{Refusal, refuseFrom}
 use Rattle.description.specs.Literals.{Literal, pos, neg, members}
 use Rattle.description.specs.Descriptions.{Entry, top, name, both, every, atLeast, Description, sameEntry, ifBoth, ifEvery, ifLeast}
 use Rattle.description.specs.Roles.{ancestor, simple}
-use Rattle.description.specs.Acceptance.{entryTest, descriptionRefusal, accepted↔}
+use Rattle.description.specs.Acceptance.{entryTest, descriptionRefusal, descriptionTests, accepted↔}
 use Rattle.interpretation.specs.Models.{Model, Satisfies}
 use Rattle.graph.specs.Graphs.{Edge, Node, Graph, total, GraphLimits}
 use Rattle.graph.specs.GraphTests.{anyGraph, storedGraph, labelTest, bothTest, edgeTest, everyTest, countTest, nodeRefusal, graphRefusal, lifted-graph↔}
@@ -173,9 +173,9 @@ refusals = refl
 
 -- the soundness theorem is not empty: P3's graph keeps the rules
 p3-model : Model trial (line trial (P3 2)) × Satisfies trial root (line trial (P3 2))
-unfolding graphRefusal nodeRefusal refuseFrom labelTest bothTest edgeTest everyTest countTest total descriptionRefusal entryTest simple
+unfolding graphRefusal nodeRefusal refuseFrom labelTest bothTest edgeTest everyTest countTest total descriptionTests entryTest simple
     members has nonempty narrow allBelow anyBelow each some? ifBoth ifEvery ifLeast sameEntry ancestor closure
-p3-model = graph-sound trial (accepted↔ trial (omega arith) (omega arith) .0 refl) root (P3 2) (lifted-graph↔ trial root (P3 2) (omega arith) .0 refl)
+p3-model = graph-sound trial (accepted↔ trial .0 (omega arith, (omega arith, refl))) root (P3 2) (lifted-graph↔ trial root (P3 2) .0 (omega arith, refl))
 
 -- ---- lines
 -- for each element the set of its fillers, and the set of its names

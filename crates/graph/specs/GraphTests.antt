@@ -69,10 +69,14 @@ nodeRefusal lim D size lab W N es =
     (unless (everyTest D lab (members N) es) 14
     (unless (countTest D lab (members N) es) 15 none))))
 
--- 10 over all records, rising; then the records rising, smallest number within one
+-- 10, of one record
+abbrev pub nodeForm : GraphLimits → List Edge → Option ℕ
+nodeForm lim es = unless (lim .edges (length es)) 10 none
+
+-- first every record's form; then each record in turn by 11 to 15
 unfoldable pub graphRefusal : GraphLimits → Description → List Literal → Graph → Option Refusal
 graphRefusal lim D W G =
-    refuseFrom (λ x. unless (lim .edges (length (edgesAt G x))) 10 none) (length G) 0
+    refuseFrom (λ x. nodeForm lim (edgesAt G x)) (length G) 0
     (refuseFrom (λ x. nodeRefusal lim D (length G) (labelAt G) (wantedAt W x) (nodeAt G x .label) (edgesAt G x)) (length G) 0 none)
 
 -- ---- the tests say what the rules say
@@ -121,17 +125,17 @@ node↔ lim D size lab W N es = simp (unless↔, label↔, both↔, each↔, edg
 )
 
 -- a graph of one record or more is refused by none of 10 to 15 exactly if it keeps the rules and is within the limits
-pub graph↔ : (lim : GraphLimits) (D : Description) (W : List Literal) (G : Graph) → 1 ≤ length G
-    → (graphRefusal lim D W G ≡ none) ↔ (Keeps D W G × GraphFits lim G)
+pub graph↔ : (lim : GraphLimits) (D : Description) (W : List Literal) (G : Graph)
+    → ((1 ≤ length G) × (graphRefusal lim D W G ≡ none)) ↔ (Keeps D W G × GraphFits lim G)
 unfolding graphRefusal
-graph↔ lim D W G h = simp (records↔, unless↔, node↔) (
-  λ t. (record { some-node = h; nodes = λ x l. t .1 .0 x l .0 }, record { edges-fit = λ x l. t .0 x l .0; counts-fit = λ x l. t .1 .0 x l .1 }),
-  λ o. (λ x l. (o .1 .edges-fit x l, refl), (λ x l. (o .0 .nodes x l, o .1 .counts-fit x l), refl)),
+graph↔ lim D W G = simp (records↔, unless↔, node↔) (
+  λ t. (record { some-node = t .0; nodes = λ x l. t .1 .1 .0 x l .0 }, record { edges-fit = λ x l. t .1 .0 x l .0; counts-fit = λ x l. t .1 .1 .0 x l .1 }),
+  λ o. (o .0 .some-node, (λ x l. (o .1 .edges-fit x l, refl), (λ x l. (o .0 .nodes x l, o .1 .counts-fit x l), refl))),
 )
 
 -- lifted: no limits
-pub lifted-graph↔ : (D : Description) (W : List Literal) (G : Graph) → 1 ≤ length G → (graphRefusal anyGraph D W G ≡ none) ↔ Keeps D W G
-lifted-graph↔ D W G h = (
-  λ e. graph↔ anyGraph D W G h .0 e .0,
-  λ k. graph↔ anyGraph D W G h .1 (k, record { edges-fit = λ x l. refl; counts-fit = λ x l E m. refl }),
+pub lifted-graph↔ : (D : Description) (W : List Literal) (G : Graph) → ((1 ≤ length G) × (graphRefusal anyGraph D W G ≡ none)) ↔ Keeps D W G
+lifted-graph↔ D W G = (
+  λ e. graph↔ anyGraph D W G .0 e .0,
+  λ k. graph↔ anyGraph D W G .1 (k, record { edges-fit = λ x l. refl; counts-fit = λ x l E m. refl }),
 )

@@ -1,4 +1,5 @@
--- Graphs and their rules 11 to 15 (01, "Evidence", Graph; FORMAT 4), with no limits and no bytes.
+-- Graphs and their rules, numbers 11 to 15 (01, "Evidence", Graph; FORMAT 4).
+-- The rules know no limits; those of stored graphs stand at the end, apart.
 use Prim.Native.Nat.{ℕ, zero, suc, _+_, _≤_, _<_}
 use mathlib.Core.Path.{_≡_}
 use mathlib.Core.Logic.{_⊎_}
@@ -45,7 +46,7 @@ unfoldable pub total : List Edge → (Edge → Bool) → ℕ
 total [] p = 0
 total (E ∷ es) p = only (p E) (E .count) + total es p
 
--- 11: the label lies in the table, has literal 0, all rules and what is wanted of the record, and no literal with its opposite
+-- 11: a label is a consistent set of literals of the table, with all that must be true at the node
 pub record LabelOk (D : Description) (W : List Literal) (L : Label) : Type 0 where
   pub in-table : InTable (D .entries) L
   pub has-top : So (L (pos 0))
@@ -53,12 +54,12 @@ pub record LabelOk (D : Description) (W : List Literal) (L : Label) : Type 0 whe
   pub consistent : (e : ℕ) → e < D .entries → So (L (pos e)) → So (L (neg e)) → ⊥
   pub has-wanted : (l : Literal) → l ∈ W → So (L l)
 
--- 12: "both" brings both literals; its complement brings the opposite of one
+-- 12: a label that has a conjunction has its parts; one that denies it denies a part
 abbrev pub BothOk : Description → Label → Type 0
 BothOk D L = (e : ℕ) → e < D .entries → (a b : Literal) → D .entry e ≡ both a b
     → (So (L (pos e)) → So (L a) × So (L b)) × (So (L (neg e)) → So (L (opposite a)) ⊎ So (L (opposite b)))
 
--- 13: the target is a record; the mask is not empty, has no bit past the last role and holds every ancestor of its roles; the count is 1 or more
+-- 13: an edge leads to a node, along a set of roles of the table that is closed upwards and has a member, to at least one filler
 pub record EdgeOk (D : Description) (size : ℕ) (E : Edge) : Type 0 where
   pub target-in : E .target < size
   pub some-role : (r : ℕ) × So (ofRole r E)
@@ -66,24 +67,24 @@ pub record EdgeOk (D : Description) (size : ℕ) (E : Edge) : Type 0 where
   pub roles-up : (r : ℕ) → r < D .roles → So (ofRole r E) → (s : ℕ) → s < D .roles → So (ancestor D r s) → So (ofRole s E)
   pub some-copy : 1 ≤ E .count
 
--- what "every R l" asks of an R edge's target: l, and "every T l" for each transitive T on the edge with ancestor R.
+-- what "every R l" (∀R.l) passes along an R edge: l itself, and for the transitive roles T ⊑* R on the edge the "every T l" that carries it on.
 -- "every T l" is each entry that is it: there is one by test 7, and one only by test 6
 abbrev pub Passes : Description → ℕ → Literal → Edge → Label → Type 0
 Passes D r l E M = So (M l) × ((t : ℕ) → t < D .roles → So (D .transitive t) → So (ofRole t E) → So (ancestor D t r)
     → (f : ℕ) → f < D .entries → every t l ≡ D .entry f → So (M (pos f)))
 
--- the counts over R edges to targets with l, added up
+-- how many R fillers with l the edges give
 abbrev pub counted : (ℕ → Label) → List Edge → ℕ → Literal → ℕ
 counted lab es r l = total es (λ E. ofRole r E && lab (E .target) l)
 
 module _ (D : Description) (lab : ℕ → Label) (L : Label) (es : List Edge) where
-  -- 14: "every R l" passes on to the target of each R edge; its complement: some R edge's target has the opposite of l
+  -- 14: an "every" of the label is kept by each edge of its role; a denied one is broken by some edge
   abbrev pub EveryOk : Type 0
   EveryOk = (e : ℕ) → e < D .entries → (r : ℕ) (l : Literal) → D .entry e ≡ every r l
       → (So (L (pos e)) → (E : Edge) → E ∈ es → So (ofRole r E) → Passes D r l E (lab (E .target)))
       × (So (L (neg e)) → (E : Edge) × (E ∈ es) × (So (ofRole r E) × So (lab (E .target) (opposite l))))
 
-  -- 15: "at least n R l": the counts total n or more; its complement: they total at most n - 1, and each R edge's target has l or its opposite
+  -- 15: an "at least" of the label is reached; a denied one is not, and there each filler's label says whether it counts
   abbrev pub CountOk : Type 0
   CountOk = (e : ℕ) → e < D .entries → (r : ℕ) (l : Literal) (n : ℕ) → D .entry e ≡ atLeast r l n
       → (So (L (pos e)) → n ≤ counted lab es r l)

@@ -13,20 +13,20 @@ use Rattle.description.specs.Roles.{ancestor}
 use Rattle.interpretation.specs.Meaning.{Interpretation}
 use Rattle.graph.specs.Graphs.{Edge, Graph, labelAt, edgesAt, ofRole, total}
 
--- K: the greatest total of counts from one node to one node, at least 1
+-- K: as many copies as the fillers that some node asks for in some one node
 unfoldable pub copies : Graph → ℕ
 copies G = max 1 (maxBelow (length G) (λ x. maxBelow (length G) (λ y. total (edgesAt G x) (λ E. eqb (E .target) y))))
 
--- role r joins each copy of a node with edges es to copy j of node y: an edge to y takes the next copies of y after earlier edges to y
+-- role r joins each copy of a node with edges es to copy j of node y: parallel edges share out the copies of their target in order
 unfoldable pub joins : List Edge → ℕ → ℕ → ℕ → Bool
 joins [] y j r = false
 joins (E ∷ es) y j r = cond (eqb (E .target) y) (cond (ltb j (E .count)) (ofRole r E) (joins es y (j - E .count) r)) (joins es y j r)
 
--- element x * K + i is copy i of node x
+-- direct pairs: element z is copy z % K of node z / K
 unfoldable pub direct : Graph → ℕ → ℕ → ℕ → ℕ → Bool
 direct G K r z w = joins (edgesAt G (z / K)) (w / K) (w % K) r
 
--- each transitive role is closed, and its pairs go to its ancestors
+-- all pairs: the direct ones, and along each transitive role below r the paths of direct ones
 unfoldable pub pairs : Description → Graph → ℕ → ℕ → ℕ → ℕ → Bool
 pairs D G K r z w = direct G K r z w
     || anyBelow (D .roles) (λ t. D .transitive t && (ancestor D t r && closure (length G * K) (direct G K t) z w))

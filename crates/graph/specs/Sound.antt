@@ -125,7 +125,7 @@ module _ (D : Description) (A : Accepted D) (W : List Literal) (G : Graph) (g : 
   every-role : (e r : ℕ) (l : Literal) → e < D .entries → D .entry e ≡ every r l → (z w : ℕ) → z < size → So (lab z (pos e)) → So (I .role r z w) → So (lab w l)
   every-role e r l he q z w hz p k = elim (role↔ r z w .0 k) [
     | inl u ↦ passed e r l he q z w hz p u .0
-    | inr v ↦ let f = A .passes e he r l q (v .0) (v .1) (v .2 .0) (v .2 .1 .0) in
+    | inr v ↦ let f = A .everys-below e he r l q (v .0) (v .1) (v .2 .0) (v .2 .1 .0) in
         along (v .0) (f .0) l (v .1) (v .2 .0) (f .1) (f .2) z w (v .2 .1 .1) e r he q (v .2 .1 .0) hz p .0
   ]
 

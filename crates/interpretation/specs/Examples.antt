@@ -13,7 +13,7 @@ use Rattle.logic.specs.Sums.{sumBelow}
 use Rattle.description.specs.Literals.{Literal, literal}
 use Rattle.description.specs.Descriptions.{Entry, top, name, both, every, atLeast, Description, sameEntry, ifEvery, ifLeast}
 use Rattle.description.specs.Roles.{ancestor, simple}
-use Rattle.description.specs.Acceptance.{entryTest, descriptionRefusal}
+use Rattle.description.specs.Acceptance.{entryTest, descriptionRefusal, descriptionTests}
 use Rattle.description.specs.Examples.{Role, under, transitiveUnder, tableOf, lit}
 use Rattle.interpretation.specs.Meaning.{Interpretation, meaning, truthWith, truth, holds}
 use Rattle.interpretation.specs.Models.{Model, Satisfies}
@@ -133,7 +133,7 @@ abbrev first : Description
 first = tableOf twoRoles entries (lit 4) (lit 8 ∷ [])
 
 first-accepted : descriptionRefusal first ≡ none
-unfolding descriptionRefusal allBelow anyBelow narrow entryTest literal ifLeast ifEvery simple ancestor closure has sameEntry
+unfolding descriptionTests allBelow anyBelow narrow entryTest literal ifLeast ifEvery simple ancestor closure has sameEntry
 first-accepted = refl
 
 first-model : Model first line × Satisfies first (first .root ∷ []) line

@@ -11,7 +11,8 @@ use Rattle.description.specs.Literals.{Literal, pos, neg, opposite, entryOf}
 use Rattle.description.specs.Descriptions.{Entry, top, name, both, every, atLeast, Description}
 use Rattle.description.specs.Acceptance.{EntryOk, Accepted}
 
--- an interpretation (01: a line): elements 0 to size - 1, the elements of each name, the pairs of each role
+-- a finite interpretation (01: a line; that it is finite is 01's): elements 0 to size - 1, the elements of each name, the pairs of each
+-- role. That there is an element is asked of models
 pub record Interpretation : Type 0 where
   pub size : ℕ
   pub name : ℕ → ℕ → Bool

@@ -82,10 +82,13 @@ some-member n h = go n n h (omega arith)
 
 pub nonempty↔ : (n : ℕ) → So (nonempty n) ↔ ((i : ℕ) × So (has n i))
 unfolding nonempty
-nonempty↔ n = (λ h. some-member n (so-ltb 0 n h), λ w. ltb-so 0 n (elim (decLe 1 n) [
-  | yes q ↦ q
-  | no q ↦ absurd (let z : n ≡ 0 = omega arith in no-member (w .0) (subst (λ m. So (has m (w .0))) z (w .1)))
-]))
+nonempty↔ n = (
+  λ h. some-member n (so-ltb 0 n h),
+  λ w. ltb-so 0 n (elim (decLe 1 n) [
+    | yes q ↦ q
+    | no q ↦ absurd (let z : n ≡ 0 = omega arith in no-member (w .0) (subst (λ m. So (has m (w .0))) z (w .1)))
+  ]),
+)
 
 -- a set whose members are below k is a number below 2 ^ k
 pub lt-has : (k n : ℕ) → ((i : ℕ) → So (has n i) → i < k) → n < 2 ^ k

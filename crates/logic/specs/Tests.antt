@@ -1,5 +1,5 @@
 -- Tests (values of Bool) as statements: `So b` says that the test b passes. Each `…↔` law turns a composed test into the
--- statement that it tests; `simp reading` applies them all, which is how every test of this repository gets its iff.
+-- statement that it tests; `simp reading` applies them all, which gives most tests of this repository their iff.
 use Prim.Native.Nat.{ℕ, zero, suc, _≤_, _<_}
 use mathlib.Core.Path.{_≡_, refl, sym, _∙_, subst}
 use mathlib.Core.Logic.{_↔_, _⊎_, inl, inr}

@@ -66,9 +66,8 @@ module _ (D : Description) (L : Label) (rows : List Row) (c : ℕ) where
   abbrev among : ℕ → Bool
   among r = cellRole D rows c r
 
-  -- what is known of every filler in cell c, under the label L: literal 0; the qualifiers of its rows; the opposite qualifier of
-  -- each other row whose role is among its roles; l for each "every R l" in L with R among its roles, and then "every T l" for each
-  -- transitive T among them with ancestor R (each entry that is it, as in graphs)
+  -- what every filler of cell c satisfies if the label L holds where it is a filler of. In turn: top; the rows it counts in; the rows it
+  -- would count in by its roles but does not; each ∀ of L over one of its roles; and the ∀ over a transitive sub-role that carries such a ∀ on
   pub data Known : Literal → Type 0 where
     topmost : Known (pos 0)
     qualified : (i : ℕ) → i < length rows → So (has c i) → Known (rowAt rows i .qualifier)

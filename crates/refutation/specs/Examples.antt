@@ -13,14 +13,14 @@ use Rattle.counting.specs.Trees.{lower, upper, Tree, leaf, split, formed, depth
 use Rattle.description.specs.Literals.{Literal, literal, members, adding, labelOf}
 use Rattle.description.specs.Descriptions.{Entry, top, name, both, every, atLeast, Description, sameEntry, isBoth, ifEvery, ifLeast}
 use Rattle.description.specs.Roles.{ancestor, simple}
-use Rattle.description.specs.Acceptance.{entryTest, descriptionRefusal, Accepted, accepted↔}
+use Rattle.description.specs.Acceptance.{entryTest, descriptionRefusal, descriptionTests, Accepted, accepted↔}
 use Rattle.description.specs.Examples.{Role, under, transitiveUnder, tableOf, lit}
 use Rattle.interpretation.specs.Meaning.{Interpretation}
 use Rattle.interpretation.specs.Models.{Model, Satisfies}
 use Rattle.refutation.specs.Cells.{rowOf, rowsOf, bounds, cellRole, known}
 use Rattle.refutation.specs.Records.{Cell, unshown, cited, Step, contradiction, conjunction, disjunction, byRule, caseSplit, counting}
 use Rattle.refutation.specs.Records.{Record, Refutation, RefutationLimits}
-use Rattle.refutation.specs.RecordTests.{anyRefutation, storedRefutation, whenCounting, ifCited, namedTest, appliesTest, knownLabel, recordRefusal}
+use Rattle.refutation.specs.RecordTests.{anyRefutation, storedRefutation, whenCounting, ifCited, citeTest, stepTest, knownLabel, recordRefusal}
 use Rattle.refutation.specs.RecordTests.{endLabel, refutationRefusal, lifted-refutation↔}
 use Rattle.refutation.specs.Sound.{refutation-sound}
 
@@ -336,7 +336,7 @@ record KnownTrial : Type 0 where
 
 abbrev knows : List Role → List Entry → List ℕ → List ℕ → ℕ → List ℕ → KnownTrial
 knows roles entries label rows c literals = record {
-  found = knownLabel (tableOf roles entries (lit 0) []) (λ _. 0) 0 (set label) (lits rows) c;
+  found = knownLabel (tableOf roles entries (lit 0) []) (set label) (lits rows) c;
   literals = literals;
 }
 
@@ -447,18 +447,18 @@ Agree ts = map (λ t. refutationRefusal (t .limits) (t .given) (t .wanted) (t .l
 
 trials-hold : Agree endTrials × Agree stepTrials × Agree countTrials × Agree manyTrials × Agree cellTrials
 unfolding endTrials stepTrials countTrials manyTrials cellTrials topOnly limited p2 p6-with p6 named many quads chain splitAt counted
-    refutationRefusal refuseFrom recordRefusal whenCounting ifCited namedTest appliesTest endLabel
+    refutationRefusal refuseFrom recordRefusal whenCounting ifCited citeTest stepTest endLabel
     formed depth leafTest treeTest rowsOf bounds known cellRole ancestor closure sameEntry isBoth
     literal members adding labelOf narrow within with has setOf each allBelow anyBelow
 trials-hold = (refl, refl, refl, refl, refl)
 
 -- ---- so P6's class is empty: no model has an element with literal 8
 limited-accepted : Accepted limited
-unfolding limited descriptionRefusal allBelow anyBelow narrow entryTest literal ifLeast ifEvery simple ancestor closure has sameEntry
-limited-accepted = accepted↔ limited (omega arith) (omega arith) .0 refl
+unfolding limited descriptionTests allBelow anyBelow narrow entryTest literal ifLeast ifEvery simple ancestor closure has sameEntry
+limited-accepted = accepted↔ limited .0 (omega arith, (omega arith, refl))
 
 p6-empty : (I : Interpretation) → Model limited I → Satisfies limited (lit 8 ∷ []) I → ⊥
-unfolding limited p6-with p6 refutationRefusal refuseFrom recordRefusal whenCounting ifCited namedTest appliesTest endLabel
+unfolding limited p6-with p6 refutationRefusal refuseFrom recordRefusal whenCounting ifCited citeTest stepTest endLabel
     formed depth leafTest treeTest rowsOf bounds known cellRole ancestor closure sameEntry isBoth
     literal members adding labelOf narrow within with has setOf each allBelow anyBelow
-p6-empty = refutation-sound limited limited-accepted (lit 8 ∷ []) p6 (lifted-refutation↔ limited limited-accepted (lit 8 ∷ []) p6 (omega arith) .0 refl)
+p6-empty = refutation-sound limited limited-accepted (lit 8 ∷ []) p6 (lifted-refutation↔ limited limited-accepted (lit 8 ∷ []) p6 .0 (omega arith, refl))

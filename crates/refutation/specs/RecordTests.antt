@@ -1,4 +1,4 @@
--- Rules 10 and 16 to 20 of refutations as tests, in the table's order, and that they say what the rules say.
+-- The rules of refutations as tests, in the table's order, and that they say what the rules say.
 use Prim.Native.Nat.{ℕ, zero, suc, _*_, _-_, _^_, _≤_, _<_}
 use mathlib.Core.Path.{_≡_, refl, sym, _∙_, subst}
 use mathlib.Core.Logic.{_↔_, _⊎_, inl, inr, Iff·rfl}
@@ -19,7 +19,7 @@ use Rattle.description.specs.Literals.{Literal, pos, neg, opposite, code, entry
 use Rattle.description.specs.Descriptions.{Description, isBoth, isBoth↔}
 use Rattle.description.specs.Acceptance.{Accepted}
 use Rattle.refutation.specs.Cells.{Row, rowOf, isRow, rowsOf, bounds, Known, known, known↔, rows-in, known-in}
-use Rattle.refutation.specs.Records.{Cell, unshown, cited, Counting, Step, contradiction, conjunction, disjunction, byRule, caseSplit, counting, asCounting, WhenCounting, Record, Refutation, recordAt, labelAt, cellAt, openAt, literalAt, FormOk, FormFits, Formed, Named, Applies, inLabel, Shows, Ends, RecordOk, EndOk, Closes, RefutationLimits, StepFits, RefutationFits}
+use Rattle.refutation.specs.Records.{Cell, unshown, cited, Counting, Step, contradiction, conjunction, disjunction, byRule, caseSplit, counting, asCounting, WhenCounting, Record, Refutation, recordAt, numberAt, cellAt, openAt, literalAt, FormOk, FormFits, Formed, CiteOk, StepOk, inLabel, CellOk, TreeOk, RecordOk, EndOk, Closes, RefutationLimits, StepValuesFit, RefutationFits}
 
 -- no limits: lifted refutations
 abbrev pub anyRefutation : RefutationLimits
@@ -44,60 +44,64 @@ abbrev pub formTest : RefutationLimits → Counting → Bool
 formTest lim K = (leb 1 (length (K .rows)) && (eqb (suc (length (K .cells))) (2 ^ length (K .rows)) && formed (length (K .rows)) (K .tree)))
     && (lim .rows (length (K .rows)) && lim .depth (depth (K .tree)))
 
+-- the known label of cell c as a number: what one cell shows, under the label number N and with those row literals
+abbrev pub knownLabel : Description → ℕ → List Literal → ℕ → ℕ
+knownLabel D N lits c = labelOf (D .entries) (known D (members N) (rowsOf D lits) c)
+
 module _ (D : Description) (num : ℕ → ℕ) (i N : ℕ) where
   -- 16
-  unfoldable pub namedTest : Step → Bool
-  namedTest (contradiction l) = ltb (entryOf l) (D .entries)
-  namedTest (conjunction e c) = ltb e (D .entries) && ltb c i
-  namedTest (disjunction e c d) = ltb e (D .entries) && (ltb c i && ltb d i)
-  namedTest (byRule q c) = ltb q (D .rules) && ltb c i
-  namedTest (caseSplit e c d) = ltb e (D .entries) && (ltb c i && ltb d i)
-  namedTest (counting K) = each (K .rows) (λ l. ltb (entryOf l) (D .entries))
+  unfoldable pub citeTest : Step → Bool
+  citeTest (contradiction l) = ltb (entryOf l) (D .entries)
+  citeTest (conjunction e c) = ltb e (D .entries) && ltb c i
+  citeTest (disjunction e c d) = ltb e (D .entries) && (ltb c i && ltb d i)
+  citeTest (byRule q c) = ltb q (D .rules) && ltb c i
+  citeTest (caseSplit e c d) = ltb e (D .entries) && (ltb c i && ltb d i)
+  citeTest (counting K) = each (K .rows) (λ l. ltb (entryOf l) (D .entries))
       && allBelow (2 ^ length (K .rows)) (λ c. ltb 0 c ⇒ ifCited (λ j. ltb j i) (cellAt (K .cells) c))
 
   -- 17
-  unfoldable pub appliesTest : Step → Bool
-  appliesTest (contradiction l) = inLabel D num i (members N) l && inLabel D num i (members N) (opposite l)
-  appliesTest (conjunction e c) = members N (pos e) && isBoth (λ a b. within (num c) (adding (adding N a) b)) (D .entry e)
-  appliesTest (disjunction e c d) = members N (neg e)
+  unfoldable pub stepTest : Step → Bool
+  stepTest (contradiction l) = inLabel (members N) l && inLabel (members N) (opposite l)
+  stepTest (conjunction e c) = members N (pos e) && isBoth (λ a b. within (num c) (adding (adding N a) b)) (D .entry e)
+  stepTest (disjunction e c d) = members N (neg e)
       && isBoth (λ a b. within (num c) (adding N (opposite a)) && within (num d) (adding N (opposite b))) (D .entry e)
-  appliesTest (byRule q c) = within (num c) (adding N (D .rule q))
-  appliesTest (caseSplit e c d) = within (num c) (adding N (pos e)) && within (num d) (adding N (neg e))
-  appliesTest (counting K) = each (K .rows) (λ l. members N l && isRow (rowOf D l))
+  stepTest (byRule q c) = within (num c) (adding N (D .rule q))
+  stepTest (caseSplit e c d) = within (num c) (adding N (pos e)) && within (num d) (adding N (neg e))
+  stepTest (counting K) = each (K .rows) (λ l. members N l && isRow (rowOf D l))
       && allBelow (length (K .rows)) (λ j. ltb (suc j) (length (K .rows)) ⇒ ltb (code (literalAt (K .rows) j)) (code (literalAt (K .rows) (suc j))))
 
-  -- the known label of cell c as a number: what one cell shows
-  abbrev pub knownLabel : List Literal → ℕ → ℕ
-  knownLabel lits c = labelOf (D .entries) (known D (members N) (rowsOf D lits) c)
-
   -- 18
-  abbrev pub showsTest : Step → Bool
-  showsTest s = whenCounting (λ K. allBelow (2 ^ length (K .rows)) (λ c.
-      ltb 0 c ⇒ ifCited (λ j. within (num j) (knownLabel (K .rows) c)) (cellAt (K .cells) c))) (asCounting s)
+  abbrev pub cellTest : Step → Bool
+  cellTest s = whenCounting (λ K. allBelow (2 ^ length (K .rows)) (λ c.
+      ltb 0 c ⇒ ifCited (λ j. within (num j) (knownLabel D N (K .rows) c)) (cellAt (K .cells) c))) (asCounting s)
 
   -- 19
-  abbrev pub endsTest : (ℕ → Bool) → Step → Bool
-  endsTest fits s = whenCounting (λ K. closedTest (bounds (rowsOf D (K .rows))) (openAt (K .cells)) fits (K .tree)) (asCounting s)
+  abbrev pub closingTest : (ℕ → Bool) → Step → Bool
+  closingTest fits s = whenCounting (λ K. closedTest (bounds (rowsOf D (K .rows))) (openAt (K .cells)) fits (K .tree)) (asCounting s)
 
   -- the smallest of 16 to 19 that refuses the record i with label number N
   unfoldable pub recordRefusal : (ℕ → Bool) → Step → Option ℕ
   recordRefusal fits s =
-      unless (narrow N (2 * D .entries) && namedTest s) 16
-      (unless (appliesTest s) 17
-      (unless (showsTest s) 18
-      (unless (endsTest fits s) 19 none)))
+      unless (narrow N (2 * D .entries) && citeTest s) 16
+      (unless (stepTest s) 17
+      (unless (cellTest s) 18
+      (unless (closingTest fits s) 19 none)))
 
 -- the set of literal 0 and what is wanted
 unfoldable pub endLabel : List Literal → ℕ
 endLabel [] = adding 0 (pos 0)
 endLabel (l ∷ W) = adding (endLabel W) l
 
--- 10 over all records, rising; then the records rising, smallest number within one; then 20, of the last
+-- 10, of one record
+abbrev pub recordForm : RefutationLimits → Step → Option ℕ
+recordForm lim s = unless (whenCounting (formTest lim) (asCounting s)) 10 none
+
+-- first every record's form; then each record in turn by 16 to 19; then the last label by 20
 unfoldable pub refutationRefusal : RefutationLimits → Description → List Literal → Refutation → Option Refusal
 refutationRefusal lim D W C =
-    refuseFrom (λ i. unless (whenCounting (formTest lim) (asCounting (recordAt C i .step))) 10 none) (length C) 0
-    (refuseFrom (λ i. recordRefusal D (labelAt C) i (labelAt C i) (lim .value) (recordAt C i .step)) (length C) 0
-    (refuse (length C - 1) (unless (within (labelAt C (length C - 1)) (endLabel W)) 20 none) none))
+    refuseFrom (λ i. recordForm lim (recordAt C i .step)) (length C) 0
+    (refuseFrom (λ i. recordRefusal D (numberAt C) i (numberAt C i) (lim .value) (recordAt C i .step)) (length C) 0
+    (refuse (length C - 1) (unless (within (numberAt C (length C - 1)) (endLabel W)) 20 none) none))
 
 -- ---- the tests say what the rules say
 pub ifCited↔ : (p : ℕ → Bool) (x : Cell) → So (ifCited p x) ↔ ((j : ℕ) → x ≡ cited j → So (p j))
@@ -116,47 +120,43 @@ when-both P Q none = (λ h. (tt, tt), λ h. tt)
 when-both P Q (some K) = (λ h. h, λ h. h)
 
 module _ (D : Description) (num : ℕ → ℕ) (i N : ℕ) where
-  pub named↔ : (s : Step) → So (namedTest D num i N s) ↔ Named D num i (members N) s
-  unfolding namedTest
-  named↔ (contradiction l) = simp listed Iff·rfl
-  named↔ (conjunction e c) = simp listed Iff·rfl
-  named↔ (disjunction e c d) = simp listed Iff·rfl
-  named↔ (byRule q c) = simp listed Iff·rfl
-  named↔ (caseSplit e c d) = simp listed Iff·rfl
-  named↔ (counting K) = simp (listed, ifCited↔) Iff·rfl
+  pub cite↔ : (s : Step) → So (citeTest D num i N s) ↔ CiteOk D num i (members N) s
+  unfolding citeTest
+  cite↔ (contradiction l) = simp listed Iff·rfl
+  cite↔ (conjunction e c) = simp listed Iff·rfl
+  cite↔ (disjunction e c d) = simp listed Iff·rfl
+  cite↔ (byRule q c) = simp listed Iff·rfl
+  cite↔ (caseSplit e c d) = simp listed Iff·rfl
+  cite↔ (counting K) = simp (listed, ifCited↔) Iff·rfl
 
-  pub applies↔ : (s : Step) → So (appliesTest D num i N s) ↔ Applies D num i (members N) s
-  unfolding appliesTest
-  applies↔ (contradiction l) = and↔ _ _
-  applies↔ (conjunction e c) = simp (and↔, isBoth↔, within-members↔, members-adding) Iff·rfl
-  applies↔ (disjunction e c d) = simp (and↔, isBoth↔, within-members↔, members-adding) Iff·rfl
-  applies↔ (byRule q c) = simp (within-members↔, members-adding) Iff·rfl
-  applies↔ (caseSplit e c d) = simp (and↔, within-members↔, members-adding) Iff·rfl
-  applies↔ (counting K) = simp listed Iff·rfl
+  pub step↔ : (s : Step) → So (stepTest D num i N s) ↔ StepOk D num i (members N) s
+  unfolding stepTest
+  step↔ (contradiction l) = and↔ _ _
+  step↔ (conjunction e c) = simp (and↔, isBoth↔, within-members↔, members-adding) Iff·rfl
+  step↔ (disjunction e c d) = simp (and↔, isBoth↔, within-members↔, members-adding) Iff·rfl
+  step↔ (byRule q c) = simp (within-members↔, members-adding) Iff·rfl
+  step↔ (caseSplit e c d) = simp (and↔, within-members↔, members-adding) Iff·rfl
+  step↔ (counting K) = simp listed Iff·rfl
 
   -- a known label has no literal past the table, so the number of its literals in the table is the whole of it
   shown↔ : Accepted D → (lits : List Literal) → ((l : Literal) → l ∈ lits → entryOf l < D .entries) → ((l : Literal) → l ∈ lits → So (isRow (rowOf D l)))
-      → (c j : ℕ) → So (within (num j) (knownLabel D num i N lits c)) ↔ ((l : Literal) → So (members (num j) l) → Known D (members N) (rowsOf D lits) c l)
+      → (c j : ℕ) → So (within (num j) (knownLabel D N lits c)) ↔ ((l : Literal) → So (members (num j) l) → Known D (members N) (rowsOf D lits) c l)
   shown↔ A lits inside rows c j = simp (within-members↔, members-labelOf, known↔) (
     λ h l u. h l u .1,
     λ h l u. (known-in D A (members N) (rowsOf D lits) c (rows-in D A lits inside rows) l (h l u), h l u),
   )
 
-  shows↔ : Accepted D → (s : Step) → Named D num i (members N) s → Applies D num i (members N) s → So (showsTest D num i N s) ↔ Shows D num i (members N) s
+  cell↔ : Accepted D → (s : Step) → CiteOk D num i (members N) s → StepOk D num i (members N) s → So (cellTest D num i N s) ↔ CellOk D num i (members N) s
   unfolding whenCounting
-  shows↔ A (counting K) n a = simp (listed, ifCited↔, shown↔ A (K .rows) (n .0) (λ l m. a .0 l m .1)) Iff·rfl
-  shows↔ A (contradiction l) n a = (λ h. tt, λ h. refl)
-  shows↔ A (conjunction e c) n a = (λ h. tt, λ h. refl)
-  shows↔ A (disjunction e c d) n a = (λ h. tt, λ h. refl)
-  shows↔ A (byRule q c) n a = (λ h. tt, λ h. refl)
-  shows↔ A (caseSplit e c d) n a = (λ h. tt, λ h. refl)
+  cell↔ A (counting K) n a = simp (listed, ifCited↔, shown↔ A (K .rows) (n .0) (λ l m. a .0 l m .1)) Iff·rfl
+  cell↔ A (contradiction l) n a = (λ h. tt, λ h. refl)
+  cell↔ A (conjunction e c) n a = (λ h. tt, λ h. refl)
+  cell↔ A (disjunction e c d) n a = (λ h. tt, λ h. refl)
+  cell↔ A (byRule q c) n a = (λ h. tt, λ h. refl)
+  cell↔ A (caseSplit e c d) n a = (λ h. tt, λ h. refl)
 
-  -- every split's value is within the limit
-  abbrev pub StepValuesFit : (ℕ → Bool) → Step → Type 0
-  StepValuesFit fits s = WhenCounting (λ K. ValuesFit fits (K .tree)) (asCounting s)
-
-  pub ends↔ : (fits : ℕ → Bool) (s : Step) → So (endsTest D num i N fits s) ↔ (Ends D num i (members N) s × StepValuesFit fits s)
-  ends↔ fits s =
+  pub closing↔ : (fits : ℕ → Bool) (s : Step) → So (closingTest D num i N fits s) ↔ (TreeOk D num i (members N) s × StepValuesFit fits s)
+  closing↔ fits s =
       let t = whenCounting↔ (λ K. closedTest (bounds (rowsOf D (K .rows))) (openAt (K .cells)) fits (K .tree))
       (λ K. Closed (bounds (rowsOf D (K .rows))) (openAt (K .cells)) (K .tree) × ValuesFit fits (K .tree))
       (λ K. tree↔ _ (openAt (K .cells)) fits _ (K .tree)) (asCounting s) in
@@ -166,15 +166,18 @@ module _ (D : Description) (num : ℕ → ℕ) (i N : ℕ) where
   -- none of 16 to 19 refuses a record exactly if it keeps the rules and its split values are within the limit
   pub record↔ : Accepted D → (fits : ℕ → Bool) (s : Step) → (recordRefusal D num i N fits s ≡ none) ↔ (RecordOk D num i (members N) s × StepValuesFit fits s)
   unfolding recordRefusal
-  record↔ A fits s = simp (unless↔, and↔, in-table↔, named↔, applies↔, ends↔) (
-    λ t. (record {
-      in-table = t .0 .0;
-      named = t .0 .1;
-      applies = t .1 .0;
-      shows = shows↔ A s (t .0 .1) (t .1 .0) .0 (t .1 .1 .0);
-      ends = t .1 .1 .1 .0 .0;
-    }, t .1 .1 .1 .0 .1),
-    λ o. ((o .0 .in-table, o .0 .named), (o .0 .applies, (shows↔ A s (o .0 .named) (o .0 .applies) .1 (o .0 .shows), ((o .0 .ends, o .1), refl)))),
+  record↔ A fits s = simp (unless↔, and↔, in-table↔, cite↔, step↔, closing↔) (
+    λ t. (
+      record {
+        in-table = t .0 .0;
+        cite-ok = t .0 .1;
+        step-ok = t .1 .0;
+        cell-ok = cell↔ A s (t .0 .1) (t .1 .0) .0 (t .1 .1 .0);
+        tree-ok = t .1 .1 .1 .0 .0;
+      },
+      t .1 .1 .1 .0 .1,
+    ),
+    λ o. ((o .0 .in-table, o .0 .cite-ok), (o .0 .step-ok, (cell↔ A s (o .0 .cite-ok) (o .0 .step-ok) .1 (o .0 .cell-ok), ((o .0 .tree-ok, o .1), refl)))),
   )
 
 -- 20
@@ -205,25 +208,39 @@ form↔ lim o =
     (λ h. b .0 (t .0 h), λ h. t .1 (b .1 h))
 
 -- a refutation of one record or more is refused by none of 10 and 16 to 20 exactly if it closes and is within the limits
-pub refutation↔ : (lim : RefutationLimits) (D : Description) → Accepted D → (W : List Literal) (C : Refutation) → 1 ≤ length C
-    → (refutationRefusal lim D W C ≡ none) ↔ (Closes D W C × RefutationFits lim C)
+pub refutation↔ : (lim : RefutationLimits) (D : Description) → Accepted D → (W : List Literal) (C : Refutation)
+    → ((1 ≤ length C) × (refutationRefusal lim D W C ≡ none)) ↔ (Closes D W C × RefutationFits lim C)
 unfolding refutationRefusal
-refutation↔ lim D A W C h = simp (records↔, refuse↔, unless↔, form↔, record↔ D (labelAt C), A, end↔) (
+refutation↔ lim D A W C = simp (records↔, refuse↔, unless↔, form↔, record↔ D (numberAt C), A, end↔) (
   λ t. (
-    record { some-record = h; forms = λ i l. t .0 i l .0 .0; records = λ i l. t .1 .0 i l .0; end = t .1 .1 .0 .0 },
-    λ i l. (t .0 i l .0 .1, t .1 .0 i l .1),
+    record {
+      some-record = t .0;
+      valid = record { forms = λ i l. t .1 .0 i l .0 .0; records = λ i l. t .1 .1 .0 i l .0 };
+      end = t .1 .1 .1 .0 .0;
+    },
+    record { forms-fit = λ i l. t .1 .0 i l .0 .1; values-fit = λ i l. t .1 .1 .0 i l .1 },
   ),
-  λ o. (λ i l. ((o .0 .forms i l, o .1 i l .0), refl), (λ i l. (o .0 .records i l, o .1 i l .1), ((o .0 .end, refl), refl))),
+  λ o. (
+    o .0 .some-record,
+    (
+      λ i l. ((o .0 .valid .forms i l, o .1 .forms-fit i l), refl),
+      (λ i l. (o .0 .valid .records i l, o .1 .values-fit i l), ((o .0 .end, refl), refl)),
+    ),
+  ),
 )
 
 -- lifted: no limits
-pub lifted-refutation↔ : (D : Description) → Accepted D → (W : List Literal) (C : Refutation) → 1 ≤ length C
-    → (refutationRefusal anyRefutation D W C ≡ none) ↔ Closes D W C
-lifted-refutation↔ D A W C h = (
-  λ e. refutation↔ anyRefutation D A W C h .0 e .0,
-  λ k. refutation↔ anyRefutation D A W C h .1 (k, λ i l. fits (asCounting (recordAt C i .step))),
+pub lifted-refutation↔ : (D : Description) → Accepted D → (W : List Literal) (C : Refutation)
+    → ((1 ≤ length C) × (refutationRefusal anyRefutation D W C ≡ none)) ↔ Closes D W C
+lifted-refutation↔ D A W C = (
+  λ e. refutation↔ anyRefutation D A W C .0 e .0,
+  λ k. refutation↔ anyRefutation D A W C .1 (k, record { forms-fit = λ i l. any-form (asCounting (recordAt C i .step)); values-fit = λ i l. any-value (asCounting (recordAt C i .step)) }),
 )
   where
-    fits : (o : Option Counting) → WhenCounting (FormFits anyRefutation) o × WhenCounting (λ K. ValuesFit (λ v. true) (K .tree)) o
-    fits none = (tt, tt)
-    fits (some K) = ((refl, refl), fits-all (K .tree))
+    any-form : (o : Option Counting) → WhenCounting (FormFits anyRefutation) o
+    any-form none = tt
+    any-form (some K) = (refl, refl)
+
+    any-value : (o : Option Counting) → WhenCounting (λ K. ValuesFit (λ v. true) (K .tree)) o
+    any-value none = tt
+    any-value (some K) = fits-all (K .tree)

@@ -22,7 +22,7 @@ use Rattle.description.specs.Acceptance.{Accepted}
 use Rattle.interpretation.specs.Meaning.{Interpretation, truth, holds}
 use Rattle.interpretation.specs.Models.{Model, Satisfies, AllTrue, plus-true, opposite-true, role-up, top-true, both-true, every-true, least-true, every-false}
 use Rattle.refutation.specs.Cells.{Row, positiveRow, negativeRow, rowOf, isRow, rowFrom, rowsOf, rowAt, bounds, cellRole, Known, topmost, qualified, denied, passed, onward, length-rows, length-bounds, bound-at, row-at, rows-in, RowIn}
-use Rattle.refutation.specs.Records.{Cell, unshown, cited, Counting, Step, contradiction, conjunction, disjunction, byRule, caseSplit, counting, Refutation, recordAt, labelAt, cellAt, openAt, isOpen, literalAt, Named, Applies, Cites, inLabel, Shows, Ends, RecordOk, Closes}
+use Rattle.refutation.specs.Records.{Cell, unshown, cited, Counting, Step, contradiction, conjunction, disjunction, byRule, caseSplit, counting, Refutation, recordAt, numberAt, cellAt, openAt, isOpen, literalAt, CiteOk, StepOk, Cites, inLabel, CellOk, TreeOk, RecordOk, Closes}
 
 -- no element of any model has all of L
 abbrev pub Refuted : Description → Label → Type 0
@@ -113,11 +113,11 @@ module _ (D : Description) (A : Accepted D) (num : ℕ → ℕ) (i : ℕ) (L : L
   cited-refuted : (c : ℕ) (M : Label) → c < i → Within (members (num c)) M → Refuted D M
   cited-refuted c M h w I J x hx all = before c h I J x hx (λ l u. all l (w l u))
 
-  in-label : (I : Interpretation) (x : ℕ) (l : Literal) → AllTrue D I L x → So (inLabel D num i L l) → So (holds D I l x)
+  in-label : (I : Interpretation) (x : ℕ) (l : Literal) → AllTrue D I L x → So (inLabel L l) → So (holds D I l x)
   in-label I x l all e = elim (or-cases (L l) _ e) [ inl h ↦ all l h | inr h ↦ rw (same-literal l (pos 0) h) (top-true D A I x) ]
 
   -- what a counting step shows
-  counting-sound : (K : Counting) → Named D num i L (counting K) → Applies D num i L (counting K) → Shows D num i L (counting K) → Ends D num i L (counting K)
+  counting-sound : (K : Counting) → CiteOk D num i L (counting K) → StepOk D num i L (counting K) → CellOk D num i L (counting K) → TreeOk D num i L (counting K)
       → Refuted D L
   counting-sound K n a s e I M x hx all =
       closed-no-fillers _ _ (K .tree) e
@@ -145,41 +145,41 @@ module _ (D : Description) (A : Accepted D) (num : ℕ → ℕ) (i : ℕ) (L : L
 
   pub record-sound : (s : Step) → RecordOk D num i L s → Refuted D L
   record-sound (contradiction l) ok I M x hx all =
-      opposite-true D I l x .0 (in-label I x (opposite l) all (ok .applies .1)) (in-label I x l all (ok .applies .0))
+      opposite-true D I l x .0 (in-label I x (opposite l) all (ok .step-ok .1)) (in-label I x l all (ok .step-ok .0))
   record-sound (conjunction e c) ok I M x hx all =
-      let w = ok .applies .1 in
-      let t = both-true D A I e x (w .0) (w .1) (ok .named .0) (w .2) .0 (all (pos e) (ok .applies .0)) in
-      cited-refuted c _ (ok .named .1) (w .3) I M x hx (plus-true D I (plus L (w .0)) (w .1) x (plus-true D I L (w .0) x all (t .0)) (t .1))
+      let w = ok .step-ok .1 in
+      let t = both-true D A I e x (w .0) (w .1) (ok .cite-ok .0) (w .2) .0 (all (pos e) (ok .step-ok .0)) in
+      cited-refuted c _ (ok .cite-ok .1) (w .3) I M x hx (plus-true D I (plus L (w .0)) (w .1) x (plus-true D I L (w .0) x all (t .0)) (t .1))
   record-sound (disjunction e c d) ok I M x hx all =
-      let w = ok .applies .1 in
+      let w = ok .step-ok .1 in
       elim (decide (holds D I (w .0) x)) [
         | inl p ↦ elim (decide (holds D I (w .1) x)) [
-          | inl q ↦ not-so _ (all (neg e) (ok .applies .0)) (both-true D A I e x (w .0) (w .1) (ok .named .0) (w .2) .1 (p, q))
-          | inr q ↦ cited-refuted d _ (ok .named .1 .1) (w .3 .1) I M x hx (plus-true D I L (opposite (w .1)) x all (opposite-true D I (w .1) x .1 q))
+          | inl q ↦ not-so _ (all (neg e) (ok .step-ok .0)) (both-true D A I e x (w .0) (w .1) (ok .cite-ok .0) (w .2) .1 (p, q))
+          | inr q ↦ cited-refuted d _ (ok .cite-ok .1 .1) (w .3 .1) I M x hx (plus-true D I L (opposite (w .1)) x all (opposite-true D I (w .1) x .1 q))
         ]
-        | inr p ↦ cited-refuted c _ (ok .named .1 .0) (w .3 .0) I M x hx (plus-true D I L (opposite (w .0)) x all (opposite-true D I (w .0) x .1 p))
+        | inr p ↦ cited-refuted c _ (ok .cite-ok .1 .0) (w .3 .0) I M x hx (plus-true D I L (opposite (w .0)) x all (opposite-true D I (w .0) x .1 p))
       ]
   record-sound (byRule q c) ok I M x hx all =
-      cited-refuted c _ (ok .named .1) (ok .applies) I M x hx (plus-true D I L (D .rule q) x all (M .rules q (ok .named .0) x hx))
+      cited-refuted c _ (ok .cite-ok .1) (ok .step-ok) I M x hx (plus-true D I L (D .rule q) x all (M .rules q (ok .cite-ok .0) x hx))
   record-sound (caseSplit e c d) ok I M x hx all = elim (decide (truth D I e x)) [
-    | inl p ↦ cited-refuted c _ (ok .named .1 .0) (ok .applies .0) I M x hx (plus-true D I L (pos e) x all p)
-    | inr p ↦ cited-refuted d _ (ok .named .1 .1) (ok .applies .1) I M x hx (plus-true D I L (neg e) x all (so-not _ p))
+    | inl p ↦ cited-refuted c _ (ok .cite-ok .1 .0) (ok .step-ok .0) I M x hx (plus-true D I L (pos e) x all p)
+    | inr p ↦ cited-refuted d _ (ok .cite-ok .1 .1) (ok .step-ok .1) I M x hx (plus-true D I L (neg e) x all (so-not _ p))
   ]
-  record-sound (counting K) ok I M x hx all = counting-sound K (ok .named) (ok .applies) (ok .shows) (ok .ends) I M x hx all
+  record-sound (counting K) ok I M x hx all = counting-sound K (ok .cite-ok) (ok .step-ok) (ok .cell-ok) (ok .tree-ok) I M x hx all
 
 -- ---- the whole
 -- no element of any model has the label of any of the records
 pub records-sound : (D : Description) → Accepted D → (C : Refutation)
-    → ((i : ℕ) → i < length C → RecordOk D (labelAt C) i (members (labelAt C i)) (recordAt C i .step)) → (n : ℕ) → n ≤ length C
-    → (j : ℕ) → j < n → Refuted D (members (labelAt C j))
+    → ((i : ℕ) → i < length C → RecordOk D (numberAt C) i (members (numberAt C i)) (recordAt C i .step)) → (n : ℕ) → n ≤ length C
+    → (j : ℕ) → j < n → Refuted D (members (numberAt C j))
 records-sound D A C ok zero h = λ j l. absurd (omega arith)
 records-sound D A C ok (suc n) h =
     let r = records-sound D A C ok n (omega arith) in
-    up-to (λ j. Refuted D (members (labelAt C j))) n r (record-sound D A (labelAt C) n (members (labelAt C n)) r (recordAt C n .step) (ok n h))
+    up-to (λ j. Refuted D (members (numberAt C j))) n r (record-sound D A (numberAt C) n (members (numberAt C n)) r (recordAt C n .step) (ok n h))
 
 -- after EMPTY no finite model of any size has an element with all that is wanted
 pub refutation-sound : (D : Description) → Accepted D → (W : List Literal) (C : Refutation) → Closes D W C
     → (I : Interpretation) → Model D I → Satisfies D W I → ⊥
 refutation-sound D A W C k I M w =
-    records-sound D A C (k .records) (length C) (omega arith) (length C - 1) (omega (arith, k .some-record)) I M (w .0) (w .1)
+    records-sound D A C (k .valid .records) (length C) (omega arith) (length C - 1) (omega (arith, k .some-record)) I M (w .0) (w .1)
     (λ l u. elim (k .end l u) [ inl e ↦ subst (λ m. So (holds D I m (w .0))) e (top-true D A I (w .0)) | inr m ↦ w .2 l m ])
