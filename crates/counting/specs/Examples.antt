@@ -1,5 +1,5 @@
 -- Worked examples: each rule of a counting step's tree, on both sides.
-use Prim.Native.Nat.{ℕ, _+_, _*_, _<_}
+use Prim.Native.Nat.{ℕ, zero, suc, _+_, _*_, _<_}
 use mathlib.Core.Path.{_≡_, refl, ap}
 use mathlib.Core.Bool.{Bool, true, false, _||_}
 use mathlib.Core.List.{List, [], _∷_}
@@ -11,7 +11,7 @@ use Rattle.logic.specs.Bounded.{allBelow}
 use Rattle.logic.specs.Sums.{sumBelow, only}
 use Rattle.logic.specs.Sets.{has}
 use Rattle.counting.specs.Trees.{Side, lower, upper, sameSide, Limit, limit, share, weight, worth, gap}
-use Rattle.counting.specs.Trees.{Tree, leaf, split, LeafCloses, leafTest, treeTest, formed}
+use Rattle.counting.specs.Trees.{Tree, leaf, split, LeafCloses, leafTest, treeTest, formed, depth}
 use Rattle.counting.specs.Rows.{Bound, Solves, Fillers, limits, Closed, closedTest}
 use Rattle.counting.specs.TreeLaws.{gap↔, tree↔}
 use Rattle.counting.specs.Solutions.{limits-hold, closed-sound, closed-no-fillers}
@@ -90,6 +90,19 @@ split-past = refl
 multipliers : (formed 2 (leaf (1 ∷ [])) ≡ false) × (formed 2 (leaf (1 ∷ 1 ∷ [])) ≡ true) × (formed 2 (leaf (1 ∷ 1 ∷ 1 ∷ [])) ≡ false)
 unfolding formed
 multipliers = (refl, refl, refl)
+
+-- ---- the depth: nine splits down the left halves, nine down the right ones, and one in each half of another
+lefts : ℕ → Tree
+lefts zero = leaf []
+lefts (suc d) = split 1 0 (lefts d) (leaf [])
+
+rights : ℕ → Tree
+rights zero = leaf []
+rights (suc d) = split 1 0 (leaf []) (rights d)
+
+depths : (depth (lefts 9) ≡ 9) × (depth (rights 9) ≡ 9) × (depth (split 1 0 (lefts 1) (rights 1)) ≡ 2)
+unfolding lefts rights depth
+depths = (refl, refl, refl)
 
 -- ---- a leaf closes only what no fraction solves
 -- the limits with each bound times d

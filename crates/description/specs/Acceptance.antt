@@ -81,15 +81,30 @@ everyBelowTest D = ifEvery (λ r l. allBelow (D .roles) (λ t. D .transitive t �
 abbrev pub literalTest : Description → Literal → Bool
 literalTest D l = ltb (entryOf l) (D .entries)
 
--- the first of 3 to 8 that refuses, each over the whole description; the forms are what bytes add to 3 and 4
+-- each over the whole description; the forms are what bytes add to 3 and 4
+abbrev pub rolesTest : (ℕ → Bool) → Description → Bool
+rolesTest roleForm D = allBelow (D .roles) (λ r. roleForm r && roleTest D r)
+
+abbrev pub entriesTest : (ℕ → Bool) → Description → Bool
+entriesTest entryForm D = allBelow (D .entries) (λ e. entryForm e && entryTest D e (D .entry e))
+
+abbrev pub simplesTest : Description → Bool
+simplesTest D = allBelow (D .entries) (λ e. simpleTest D (D .entry e))
+
+abbrev pub distinctsTest : Description → Bool
+distinctsTest D = allBelow (D .entries) (λ f. distinctTest D f (D .entry f))
+
+abbrev pub everysTest : Description → Bool
+everysTest D = allBelow (D .entries) (λ e. everyBelowTest D (D .entry e))
+
+abbrev pub queryTest : Description → Bool
+queryTest D = literalTest D (D .root) && allBelow (D .rules) (λ i. literalTest D (D .rule i))
+
+-- the first of 3 to 8 that refuses
 unfoldable pub descriptionTests : (ℕ → Bool) → (ℕ → Bool) → Description → Option ℕ
 descriptionTests roleForm entryForm D =
-    unless (allBelow (D .roles) (λ r. roleForm r && roleTest D r)) 3
-    (unless (allBelow (D .entries) (λ e. entryForm e && entryTest D e (D .entry e))) 4
-    (unless (allBelow (D .entries) (λ e. simpleTest D (D .entry e))) 5
-    (unless (allBelow (D .entries) (λ f. distinctTest D f (D .entry f))) 6
-    (unless (allBelow (D .entries) (λ e. everyBelowTest D (D .entry e))) 7
-    (unless (literalTest D (D .root) && allBelow (D .rules) (λ i. literalTest D (D .rule i))) 8 none)))))
+    unless (rolesTest roleForm D) 3 (unless (entriesTest entryForm D) 4
+    (unless (simplesTest D) 5 (unless (distinctsTest D) 6 (unless (everysTest D) 7 (unless (queryTest D) 8 none)))))
 
 -- lifted: no bytes
 abbrev pub descriptionRefusal : Description → Option ℕ

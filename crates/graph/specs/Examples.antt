@@ -18,7 +18,7 @@ use Rattle.description.specs.Descriptions.{Entry, top, name, both, every, atLea
 use Rattle.description.specs.Roles.{ancestor, simple}
 use Rattle.description.specs.Acceptance.{entryTest, descriptionRefusal, descriptionTests, accepted↔}
 use Rattle.interpretation.specs.Models.{Model, Satisfies}
-use Rattle.graph.specs.Graphs.{Edge, Node, Graph, total, GraphLimits}
+use Rattle.graph.specs.Graphs.{Edge, Node, Graph, total, Keeps, GraphLimits}
 use Rattle.graph.specs.GraphTests.{anyGraph, storedGraph, labelTest, bothTest, edgeTest, everyTest, countTest, nodeRefusal, graphRefusal, lifted-graph↔}
 use Rattle.graph.specs.Line.{copies, joins, direct, pairs, line}
 use Rattle.graph.specs.Sound.{graph-sound}
@@ -118,6 +118,8 @@ rows =
     ∷ row anyGraph trial root (node (0 ∷ []) [] ∷ []) (refused 11 0)
     ∷ row anyGraph trial root (node (0 ∷ 8 ∷ []) [] ∷ []) (refused 11 0)
     ∷ row anyGraph trial [] (node (0 ∷ 8 ∷ []) [] ∷ []) (refused 12 0)
+    -- 12: both literals without the "both"
+    ∷ row anyGraph trial [] (pair (0 ∷ 2 ∷ 5 ∷ []) 2) none
     -- 13: the target a record; a mask not empty, of the table, with the ancestors of its roles; a count of 1 or more
     ∷ row anyGraph tops [] (loop (edge 0 1 1)) none
     ∷ row anyGraph tops [] (loop (edge 1 1 1)) (refused 13 0)
@@ -156,6 +158,9 @@ rows =
     ∷ row anyGraph few [] (two (0 ∷ 5 ∷ []) 1 (0 ∷ [])) (refused 15 0)
     ∷ row anyGraph few [] (two (0 ∷ 5 ∷ []) 1 (0 ∷ 2 ∷ [])) none
     ∷ row anyGraph few [] (two (0 ∷ 5 ∷ []) 1 (0 ∷ 3 ∷ [])) none
+    -- under "at least" a further target need not; and counts may reach n without the "at least"
+    ∷ row anyGraph few [] (node (0 ∷ 4 ∷ []) (edge 1 1 2 ∷ edge 2 1 1 ∷ []) ∷ node (0 ∷ 2 ∷ []) [] ∷ node (0 ∷ []) [] ∷ []) none
+    ∷ row anyGraph few [] (node (0 ∷ []) (edge 1 1 2 ∷ []) ∷ node (0 ∷ 2 ∷ []) [] ∷ []) none
     ∷ []
 
 given : List Row → List (Option Refusal)
@@ -170,6 +175,10 @@ refusals : given rows ≡ dues rows
 unfolding rows given dues graphRefusal nodeRefusal refuseFrom labelTest bothTest edgeTest everyTest countTest total
     members has nonempty narrow allBelow each some? ifBoth ifEvery ifLeast sameEntry ancestor closure
 refusals = refl
+
+-- a graph of no record keeps no rules
+no-node : (D : Description) (W : List Literal) → Keeps D W [] → ⊥
+no-node D W k = omega (arith, k .some-node)
 
 -- the soundness theorem is not empty: P3's graph keeps the rules
 p3-model : Model trial (line trial (P3 2)) × Satisfies trial root (line trial (P3 2))

@@ -1,11 +1,12 @@
 -- Tests over the numbers below a bound.
-use Prim.Native.Nat.{ℕ, zero, suc, _≤_, _<_}
-use mathlib.Core.Path.{_≡_, refl}
+use Prim.Native.Nat.{ℕ, zero, suc, _+_, _≤_, _<_}
+use mathlib.Core.Path.{_≡_, refl, sym, _∙_}
 use mathlib.Core.Logic.{_↔_, _⊎_, inl, inr}
 use mathlib.Core.Bool.{Bool, true, false, cond, not, _&&_, _||_, false≢true}
 use native.Mathlib.Omega.{arith}
 use native.Mathlib.Decide.{decLt}
-use Rattle.logic.specs.Tests.{So, decide, so-and, and-l, and-r, or-l, or-r, or-cases, so-not, so-false, reading}
+use native.Mathlib.Numerals.{add-one}
+use Rattle.logic.specs.Tests.{So, decide, so-and, and-l, and-r, or-l, or-r, or-cases, so-not, so-false, same-test, reading}
 
 unfoldable pub allBelow : ℕ → (ℕ → Bool) → Bool
 allBelow zero p = true
@@ -60,6 +61,15 @@ any-elim n p = any↔ n p .0
 pub any-intro : (n : ℕ) (p : ℕ → Bool) (i : ℕ) → i < n → So (p i) → So (anyBelow n p)
 any-intro n p i h e = any↔ n p .1 (i, h, e)
 
+-- tests that agree below n agree on all and on some
+pub all-cong : (n : ℕ) (p q : ℕ → Bool) → ((i : ℕ) → i < n → p i ≡ q i) → allBelow n p ≡ allBelow n q
+all-cong n p q h = same-test _ _ (λ a. all-intro n q (λ i l. sym (h i l) ∙ all-elim n p a i l)) (λ a. all-intro n p (λ i l. h i l ∙ all-elim n q a i l))
+
+pub any-cong : (n : ℕ) (p q : ℕ → Bool) → ((i : ℕ) → i < n → p i ≡ q i) → anyBelow n p ≡ anyBelow n q
+any-cong n p q h = same-test _ _
+    (λ a. let w = any-elim n p a in any-intro n q (w .0) (w .1) (sym (h (w .0) (w .1)) ∙ w .2))
+    (λ a. let w = any-elim n q a in any-intro n p (w .0) (w .1) (h (w .0) (w .1) ∙ w .2))
+
 -- a test that does not pass everywhere fails somewhere
 pub all-not : (n : ℕ) (p : ℕ → Bool) → (So (allBelow n p) → ⊥) → (i : ℕ) × (i < n) × So (not (p i))
 unfolding allBelow
@@ -68,6 +78,36 @@ all-not (suc n) p h = elim (decide (p n)) [
   | inl u ↦ let r = all-not n p (λ a. h (so-and (allBelow n p) (p n) a u)) in (r .0, omega (arith, r .1), r .2)
   | inr u ↦ (n, omega arith, so-not _ u)
 ]
+
+-- ---- for loops that go up and stop early: what is known after the first i
+pub all-none : (p : ℕ → Bool) → allBelow 0 p ≡ true
+unfolding allBelow
+all-none p = refl
+
+pub any-none : (p : ℕ → Bool) → anyBelow 0 p ≡ false
+unfolding anyBelow
+any-none p = refl
+
+module _ (p : ℕ → Bool) (i : ℕ) where
+  pub all-stop : (n : ℕ) → i < n → p i ≡ false → allBelow n p ≡ false
+  all-stop n h e = so-false (allBelow n p) (λ a. false≢true (sym e ∙ all-elim n p a i h))
+
+  pub all-more : allBelow i p ≡ true → p i ≡ true → allBelow (i + 1) p ≡ true
+  unfolding allBelow
+  all-more a e = rw add-one (so-and (allBelow i p) (p i) a e)
+
+  pub all-done : (n : ℕ) → i ≤ n → n ≤ i → allBelow i p ≡ true → allBelow n p ≡ true
+  all-done n h k a = let e : i ≡ n = omega arith in rw e at a
+
+  pub any-stop : (n : ℕ) → i < n → p i ≡ true → anyBelow n p ≡ true
+  any-stop n h e = any-intro n p i h e
+
+  pub any-more : anyBelow i p ≡ false → p i ≡ false → anyBelow (i + 1) p ≡ false
+  unfolding anyBelow
+  any-more a e = rw (add-one, a, e) refl
+
+  pub any-done : (n : ℕ) → i ≤ n → n ≤ i → anyBelow i p ≡ false → anyBelow n p ≡ false
+  any-done n h k a = let e : i ≡ n = omega arith in rw e at a
 
 -- the last number below n that passes, or 0
 unfoldable pub find : ℕ → (ℕ → Bool) → ℕ

@@ -32,6 +32,11 @@ pub unless↔ : (b : Bool) (n : ℕ) (later : Option ℕ) → (unless b n later 
 unless↔ true n later = (λ e. (refl, e), λ h. h .1)
 unless↔ false n later = (λ e. absurd (Option·none-ne-some n (sym e)), λ h. absurd (false≢true (h .0)))
 
+-- what comes after matters only where the test passes
+pub unless-then : (a b : Bool) (n : ℕ) (x y : Option ℕ) → a ≡ b → (So a → x ≡ y) → unless a n x ≡ unless b n y
+unless-then true b n x y e h = rw (← e) (h refl)
+unless-then false b n x y e h = rw (← e) refl
+
 pub refuse↔ : (i : ℕ) (o : Option ℕ) (later : Option Refusal) → (refuse i o later ≡ none) ↔ ((o ≡ none) × (later ≡ none))
 refuse↔ i none later = (λ e. (refl, e), λ h. h .1)
 refuse↔ i (some n) later = (λ e. absurd (Option·none-ne-some _ (sym e)), λ h. absurd (Option·none-ne-some n (sym (h .0))))

@@ -19,7 +19,7 @@ use Rattle.interpretation.specs.Meaning.{Interpretation}
 use Rattle.interpretation.specs.Models.{Model, Satisfies}
 use Rattle.refutation.specs.Cells.{rowOf, rowsOf, bounds, cellRole, known}
 use Rattle.refutation.specs.Records.{Cell, unshown, cited, Step, contradiction, conjunction, disjunction, byRule, caseSplit, counting}
-use Rattle.refutation.specs.Records.{Record, Refutation, RefutationLimits}
+use Rattle.refutation.specs.Records.{Record, Refutation, Closes, RefutationLimits}
 use Rattle.refutation.specs.RecordTests.{anyRefutation, storedRefutation, whenCounting, ifCited, citeTest, stepTest, knownLabel, recordRefusal}
 use Rattle.refutation.specs.RecordTests.{endLabel, refutationRefusal, lifted-refutation↔}
 use Rattle.refutation.specs.Sound.{refutation-sound}
@@ -62,6 +62,10 @@ stored = trial storedRefutation
 abbrev lifted : Description → List ℕ → Refutation → Option Refusal → Trial
 lifted = trial anyRefutation
 
+-- name A; literal 4: at least one filler has A; one rule
+ruled : ℕ → Description
+ruled l = tableOf (under 0 ∷ []) (top ∷ name ∷ atLeast 0 (lit 2) 1 ∷ []) (lit 0) (lit l ∷ [])
+
 -- ---- P2, P6, P7 and the end
 topOnly : Description
 topOnly = tableOf (under 0 ∷ []) (top ∷ []) (lit 1) []
@@ -102,6 +106,9 @@ endTrials =
     -- of several wanted literals it may hold each
     ∷ stored limited (2 ∷ 3 ∷ []) (noneHas (2 ∷ 3 ∷ []) (clash 2) ∷ []) none
     ∷ stored limited (2 ∷ []) (noneHas (2 ∷ 3 ∷ []) (clash 2) ∷ []) (refused 20 0)
+    -- but not a rule: step 4 puts it in
+    ∷ stored (ruled 2) (3 ∷ []) (noneHas (2 ∷ 3 ∷ []) (clash 2) ∷ []) (refused 20 0)
+    ∷ stored (ruled 2) (3 ∷ []) (noneHas (2 ∷ 3 ∷ []) (clash 2) ∷ noneHas (3 ∷ []) (byRule 0 0) ∷ []) none
     -- a rule of the last record comes before
     ∷ stored limited (8 ∷ []) (p6-with (1 ∷ 1 ∷ []) (0 ∷ 2 ∷ [])) (refused 17 2)
     ∷ []
@@ -153,8 +160,12 @@ stepTrials =
     ∷ ofNext (2 ∷ 4 ∷ 9 ∷ []) (disjunction 4 1 1) (refused 17 6)
     ∷ ofNext (2 ∷ 4 ∷ 8 ∷ []) (disjunction 4 0 1) (refused 17 6)
     ∷ ofNext (2 ∷ 3 ∷ 4 ∷ []) (disjunction 1 0 0) (refused 17 6)
+    -- 0 counts as in L only if it is, for the first cite and for the second; a rule counts for neither
     ∷ ofNext (2 ∷ 4 ∷ 9 ∷ []) (disjunction 4 2 1) (refused 17 6)
     ∷ ofNext (0 ∷ 2 ∷ 4 ∷ 9 ∷ []) (disjunction 4 2 1) none
+    ∷ ofNext (2 ∷ 4 ∷ 9 ∷ []) (disjunction 4 0 5) (refused 17 6)
+    ∷ ofNext (0 ∷ 2 ∷ 4 ∷ 9 ∷ []) (disjunction 4 0 5) none
+    ∷ ofNext (4 ∷ 9 ∷ []) (disjunction 4 0 1) (refused 17 6)
     -- step 4: within L plus that rule, not another
     ∷ ofNext (2 ∷ []) (byRule 0 0) none
     ∷ ofNext (2 ∷ []) (byRule 1 0) (refused 17 6)
@@ -169,6 +180,8 @@ stepTrials =
     ∷ ofNext (1 ∷ []) (caseSplit 0 5 5) (refused 17 6)
     ∷ ofNext (0 ∷ []) (caseSplit 0 5 5) none
     ∷ ofNext [] (caseSplit 1 5 5) (refused 17 6)
+    ∷ ofNext [] (caseSplit 1 5 4) (refused 17 6)
+    ∷ ofNext (0 ∷ []) (caseSplit 1 5 4) none
     -- 16: a literal, an entry or a rule of the table
     ∷ ofStep (2 ∷ 3 ∷ 9 ∷ []) (clash 2) none
     ∷ ofStep (2 ∷ 3 ∷ 10 ∷ []) (clash 2) (refused 16 0)
@@ -428,6 +441,11 @@ abbrev ofKnown : List ℕ → Option Refusal → Trial
 ofKnown cite = stored (tableOf apart (top ∷ name ∷ atLeast 0 (lit 2) 1 ∷ every 0 (lit 3) ∷ []) (lit 0) []) (4 ∷ 6 ∷ []) (
     noneHas cite (clash 2) ∷ noneHas (4 ∷ 6 ∷ []) (count (4 ∷ []) (cited 0 ∷ []) (leaf (1 ∷ []))) ∷ [])
 
+-- some filler has A, rule 0 is not A: after {2, 3} and {2}, each refuted, cell 1 cites one of them
+abbrev ofRuled : ℕ → Option Refusal → Trial
+ofRuled cite = stored (ruled 3) (4 ∷ []) (
+    noneHas (2 ∷ 3 ∷ []) (clash 2) ∷ noneHas (2 ∷ []) (byRule 0 0) ∷ noneHas (4 ∷ []) (count (4 ∷ []) (cited cite ∷ []) (leaf (1 ∷ []))) ∷ [])
+
 cellTrials : List Trial
 cellTrials =
     -- the opposite qualifier: where role 0 is under role 1, where they are apart, where 1 is under 0
@@ -439,6 +457,9 @@ cellTrials =
     ∷ ofKnown (0 ∷ 2 ∷ 3 ∷ []) none
     ∷ ofKnown (1 ∷ 2 ∷ 3 ∷ []) (refused 18 1)
     ∷ ofKnown (2 ∷ 3 ∷ 6 ∷ []) (refused 18 1)
+    -- a rule is not: step 4 puts it in
+    ∷ ofRuled 0 (refused 18 2)
+    ∷ ofRuled 1 none
     ∷ []
 
 -- ---- all of them
@@ -446,11 +467,15 @@ abbrev Agree : List Trial → Type 0
 Agree ts = map (λ t. refutationRefusal (t .limits) (t .given) (t .wanted) (t .list)) ts ≡ map (λ t. t .answer) ts
 
 trials-hold : Agree endTrials × Agree stepTrials × Agree countTrials × Agree manyTrials × Agree cellTrials
-unfolding endTrials stepTrials countTrials manyTrials cellTrials topOnly limited p2 p6-with p6 named many quads chain splitAt counted
+unfolding endTrials stepTrials countTrials manyTrials cellTrials ruled topOnly limited p2 p6-with p6 named many quads chain splitAt counted
     refutationRefusal refuseFrom recordRefusal whenCounting ifCited citeTest stepTest endLabel
     formed depth leafTest treeTest rowsOf bounds known cellRole ancestor closure sameEntry isBoth
     literal members adding labelOf narrow within with has setOf each allBelow anyBelow
 trials-hold = (refl, refl, refl, refl, refl)
+
+-- a list of no record closes nothing
+no-record : (D : Description) (W : List Literal) → Closes D W [] → ⊥
+no-record D W k = omega (arith, k .some-record)
 
 -- ---- so P6's class is empty: no model has an element with literal 8
 limited-accepted : Accepted limited
