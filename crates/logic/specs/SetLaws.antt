@@ -5,13 +5,13 @@ use mathlib.Core.Bool.{Bool, true, false, _||_}
 use mathlib.Core.Logic.{_↔_, _⊎_, inl, inr}
 use native.Mathlib.Omega.{arith}
 use native.Mathlib.Decide.{decLe, decLt}
-use native.Mathlib.Nat.{div-one, div-eq-of-lt, div-self, div-div-eq-div-mul, mod-lt, mul-comm, pow-suc, zero-div, zero-max, zero-min}
+use native.Mathlib.Nat.{div-one, div-eq-of-lt, div-self, div-div-eq-div-mul, mod-lt, mul-comm, pow-suc}
 use lib.Arith.{digits-mod}
-use lib.Pow.{pow-lt, pow-mono, pow-pos}
-use lib.Dec.{eqb, ltb}
-use lib.Bits.{bitAnd, bitOr, and-step, and-shr, or-step, or-shr, and-le-l}
+use lib.Pow.{pow-mono, pow-pos}
+use lib.Dec.{eqb}
+use lib.Bits.{bitAnd, bitOr, and-step, and-shr, or-step, or-shr}
 use Rattle.logic.specs.Tests.{So, so-eqb, so-false, or-l, or-r, or-cases, so-ltb, ltb-so, eqb↔}
-use Rattle.logic.specs.Sums.{only, only-le, only-on, only-off}
+use Rattle.logic.specs.Sums.{only, only-le}
 use Rattle.logic.specs.Sets.{has, nonempty, narrow, within, with, setOf}
 
 -- ---- digits

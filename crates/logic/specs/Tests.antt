@@ -1,7 +1,7 @@
 -- Tests (values of Bool) as statements: `So b` says that the test b passes. Each `…↔` law turns a composed test into the
 -- statement that it tests; `simp reading` applies them all, which gives most tests of this repository their iff.
-use Prim.Native.Nat.{ℕ, zero, suc, _≤_, _<_}
-use mathlib.Core.Path.{_≡_, refl, sym, _∙_, subst}
+use Prim.Native.Nat.{ℕ, suc, _≤_, _<_}
+use mathlib.Core.Path.{_≡_, refl, sym, subst}
 use mathlib.Core.Logic.{_↔_, _⊎_, inl, inr}
 use mathlib.Core.Bool.{Bool, true, false, not, _&&_, _||_, false≢true}
 use lib.Dec.{T, eqb, leb, ltb, eqb→eq, eqb-refl, leb→le, le→leb}
@@ -70,6 +70,25 @@ imp-in false b f = refl
 pub imp-out : (a b : Bool) → So (a ⇒ b) → So a → So b
 imp-out true b h p = h
 imp-out false b h p = absurd (false≢true p)
+
+pub not-not : (b : Bool) → not (not b) ≡ b
+not-not true = refl
+not-not false = refl
+
+pub not-and : (a b : Bool) → not (a && b) ≡ (a ⇒ not b)
+not-and true b = refl
+not-and false b = refl
+
+-- "if a and b then x", the premises tested together
+pub premises-hold : (a b x : Bool) → (a && b) ≡ true → x ≡ (a ⇒ (b ⇒ x))
+premises-hold true true x h = refl
+premises-hold true false x h = absurd (false≢true h)
+premises-hold false b x h = absurd (false≢true h)
+
+pub premise-fails : (a b x : Bool) → (a && b) ≡ false → true ≡ (a ⇒ (b ⇒ x))
+premise-fails true true x h = absurd (false≢true (sym h))
+premise-fails true false x h = refl
+premise-fails false b x h = refl
 
 -- two tests that pass in the same cases are one
 pub same-test : (a b : Bool) → (So a → So b) → (So b → So a) → a ≡ b

@@ -1,0 +1,66 @@
+use Prim.Native.Nat.{_-_, _≤_}
+use mathlib.Core.Path.{_≡_, _∙_, sym}
+use mathlib.Core.Bool.{true}
+use native.Mathlib.Omega.{arith}
+use borrow.Author.Needs.{needs}
+use borrow.Author.Tests.{not-true, not-false}
+use Rattle.logic.specs.Bounded.{allBelow, all-none, all-stop, all-more, all-done}
+use Rattle.tables.specs.Tables.{fieldsAt, fieldsTest}
+use Rattle.intake.proofs.entries_ok.Statement.{statement}
+use Rattle.intake.proofs.entries_ok.Tie as tie
+use Rattle.intake.proofs.entries_ok.Reads as reads
+use Rattle.intake.proofs.entries_ok.Lts as lts
+use Rattle.tables.proofs.entry_ok.Reads as entry-ok-reads
+
+abbrev Inv-loop : tie.InvT-loop
+Inv-loop cs roles n e₀ e = (e ≤ n) × (n ≤ 32) × (allBelow e (λ e. fieldsTest roles e (fieldsAt cs e)) ≡ true)
+
+abbrev μ-loop : tie.MeasureT-loop
+μ-loop cs roles n e₀ e = n - e
+
+-- src/lib.rt:93:5
+loop-holds : tie.Need-loop-holds Inv-loop μ-loop
+loop-holds c = (omega arith, omega arith, all-none _)
+
+-- src/lib.rt:93:12
+cast-loop : tie.Need-cast-loop Inv-loop μ-loop
+cast-loop c = omega arith
+
+-- src/lib.rt:94:13
+entry-ok-requires : tie.Need-entry-ok-requires Inv-loop μ-loop
+entry-ok-requires c κs = search needs
+
+-- src/lib.rt:95:13
+returns : tie.Need-returns Inv-loop μ-loop
+returns c = sym (all-stop _ (c .before .before .before .loop .e) _ (omega arith) (sym (c .before .entry-ok .ensures) ∙ not-true _ (c .if1 .taken)))
+
+-- src/lib.rt:97:9
+add-e : tie.Need-add-e Inv-loop μ-loop
+add-e c = omega arith
+
+-- src/lib.rt:93:5
+loop-less : tie.Need-loop-less Inv-loop μ-loop
+loop-less c = omega arith
+
+-- src/lib.rt:93:5
+loop-again : tie.Need-loop-again Inv-loop μ-loop
+loop-again c = (omega arith, c .before .before .before .loop .inv .1, all-more _ (c .before .before .before .loop .e) (c .before .before .before .loop .inv .2) (sym (c .before .entry-ok .ensures) ∙ not-false _ (c .if1 .left)))
+
+-- src/lib.rt:87:1
+returns-2 : tie.Need-returns-2 Inv-loop μ-loop
+returns-2 c = sym (all-done _ (c .before .loop .e) _ (omega arith) (omega arith) (c .before .loop .inv .2))
+
+pub entries-ok-spec : {M : Type 1} → statement M
+entries-ok-spec =
+    tie.close
+    (tie.spec
+    Inv-loop
+    μ-loop
+    loop-holds
+    cast-loop
+    entry-ok-requires
+    returns
+    add-e
+    loop-less
+    loop-again
+    returns-2)

@@ -1,0 +1,163 @@
+-- Tests 1 to 8 on the bytes of a description (01, "The description" and "Table of refusals"; FORMAT 2, 3).
+use Prim.Native.Nat.{ℕ, _+_, _*_, _/_, _%_, _≤_, _<_}
+use mathlib.Core.Path.{_≡_, refl, _∙_, ap}
+use mathlib.Core.Logic.{_↔_}
+use mathlib.Core.Bool.{Bool, true, false, cond, _&&_}
+use mathlib.Core.List.{List}
+use mathlib.Core.Option.{Option, none}
+use native.Mathlib.Omega.{arith}
+use lib.Dec.{eqb, leb}
+use lib.ListN.{length}
+use Rattle.logic.specs.Tests.{So, so-leb, leb-so, reading}
+use Rattle.logic.specs.Refusals.{unless, unless↔}
+use Rattle.parts.specs.Numbers.{byteAt}
+use Rattle.parts.specs.Pairs.{endAt, partAt, fills, Fills, fills↔}
+use Rattle.description.specs.Descriptions.{Description, fieldsOf, entryOfFields, sameFields, sameFields↔}
+use Rattle.description.specs.Acceptance.{Accepted, descriptionTests, formed↔}
+use Rattle.tables.specs.Tables.{fieldsAt, describe}
+use Rattle.answers.specs.declared.Tested.{Tested}
+use Rattle.answers.specs.declared.Tested.the-variants.{Fine}
+use Rattle.answers.specs.Answers.{refusalOf, wholly, fine↔}
+use Rattle.intake.specs.declared.Ends.{Ends}
+use Rattle.intake.specs.declared.Directory.{Directory}
+use Rattle.intake.specs.declared.Directory.the-variants.{Parts, Off}
+
+-- ---- 1: the directory
+-- three pairs at 0 fill the description from 12
+abbrev pub directoryTest : List ℕ → Bool
+directoryTest d = fills d 0 3 12
+
+-- where the parts end, if they do
+unfoldable pub directoryOf : List ℕ → Directory
+directoryOf d = cond (directoryTest d) (Parts (record { roles = endAt d 0 0; concepts = endAt d 0 1; query = endAt d 0 2 })) Off
+
+abbrev pub rolesPart : List ℕ → List ℕ
+rolesPart d = partAt d 0 0
+
+abbrev pub conceptsPart : List ℕ → List ℕ
+conceptsPart d = partAt d 0 1
+
+abbrev pub queryPart : List ℕ → List ℕ
+queryPart d = partAt d 0 2
+
+-- the description that the bytes are
+abbrev pub described : List ℕ → Description
+described d = describe (rolesPart d) (conceptsPart d) (queryPart d)
+
+-- ---- 2: the parts
+abbrev pub mostRoles : ℕ
+mostRoles = 16
+
+abbrev pub mostEntries : ℕ
+mostEntries = 32
+
+abbrev pub mostRules : ℕ
+mostRules = 16
+
+-- a part of 1 to `most` records of `size` bytes
+abbrev pub Records : ℕ → ℕ → List ℕ → Type 0
+Records size most s = (length s % size ≡ 0) × ((size ≤ length s) × (length s ≤ size * most))
+
+abbrev pub recordsTest : ℕ → ℕ → List ℕ → Bool
+recordsTest size most s = eqb (length s % size) 0 && (leb size (length s) && leb (length s) (size * most))
+
+unfoldable pub sizesTest : List ℕ → List ℕ → List ℕ → Bool
+sizesTest rs cs qs = recordsTest 3 mostRoles rs && (recordsTest 6 mostEntries cs && (leb 1 (length qs) && leb (length qs) (1 + mostRules)))
+
+pub sizes-few : (rs cs qs : List ℕ) → So (sizesTest rs cs qs) → (length rs / 3 ≤ mostRoles) × (1 ≤ length qs) × (length cs / 6 ≤ mostEntries)
+unfolding sizesTest
+sizes-few rs cs qs h = let t = simp reading at h in (omega arith, omega arith, omega arith)
+
+-- ---- what bytes add to 3 and 4
+abbrev pub roleForm : List ℕ → ℕ → Bool
+roleForm rs r = leb (byteAt rs (3 * r)) 1
+
+-- the fields are those of an entry
+abbrev pub entryForm : List ℕ → ℕ → Bool
+entryForm cs e = sameFields (fieldsAt cs e) (fieldsOf (entryOfFields (fieldsAt cs e)))
+
+-- ---- all tests
+unfoldable pub partsTest : List ℕ → List ℕ → List ℕ → Option ℕ
+partsTest rs cs qs = unless (sizesTest rs cs qs) 2 (descriptionTests (roleForm rs) (entryForm cs) (describe rs cs qs))
+
+unfoldable pub bytesTest : List ℕ → Option ℕ
+bytesTest d = unless (directoryTest d) 1 (partsTest (rolesPart d) (conceptsPart d) (queryPart d))
+
+-- what an accepted description keeps, byte by byte
+pub record AcceptedBytes (d : List ℕ) : Type 0 where
+  pub directory : Fills d 0 3 12
+  pub roles : Records 3 mostRoles (rolesPart d)
+  pub concepts : Records 6 mostEntries (conceptsPart d)
+  pub query : (1 ≤ length (queryPart d)) × (length (queryPart d) ≤ 1 + mostRules)
+  pub transitive-bytes : (r : ℕ) → r < described d .roles → byteAt (rolesPart d) (3 * r) ≤ 1
+  pub fields-used : (e : ℕ) → e < described d .entries → fieldsAt (conceptsPart d) e ≡ fieldsOf (described d .entry e)
+  pub accepted : Accepted (described d)
+
+-- refused by none of 1 to 8 exactly if accepted
+pub accepted-bytes↔ : (d : List ℕ) → (bytesTest d ≡ none) ↔ AcceptedBytes d
+unfolding bytesTest partsTest sizesTest
+accepted-bytes↔ d = simp (unless↔, reading, fills↔) (
+  λ t. let w = formed↔ (roleForm (rolesPart d)) (entryForm (conceptsPart d)) (described d) .0
+      (omega arith, (omega arith, t .1 .1)) in record {
+        directory = t .0;
+        roles = t .1 .0 .0;
+        concepts = t .1 .0 .1 .0;
+        query = t .1 .0 .1 .1;
+        transitive-bytes = λ r h. so-leb _ _ (w .1 .0 r h);
+        fields-used = λ e h. sameFields↔ _ _ .0 (w .1 .1 e h);
+        accepted = w .0;
+      },
+  λ k. (
+    k .directory,
+    (
+      (k .roles, (k .concepts, k .query)),
+      formed↔ (roleForm (rolesPart d)) (entryForm (conceptsPart d)) (described d) .1
+          (k .accepted, (λ r h. leb-so _ _ (k .transitive-bytes r h), λ e h. sameFields↔ _ _ .1 (k .fields-used e h))) .1 .1,
+    ),
+  ),
+)
+
+-- the answer that the code promises is fine exactly then
+pub fine-when : (d : List ℕ) (t : Tested) → refusalOf t ≡ wholly (bytesTest d) → (t ≡ Fine) ↔ AcceptedBytes d
+fine-when d t e = let f = fine↔ t (bytesTest d) e in let a = accepted-bytes↔ d in (λ h. a .0 (f .0 h), λ h. f .1 (a .1 h))
+
+-- the sizes as numbers of roles, entries and rules
+pub accepted-sizes : (d : List ℕ) → AcceptedBytes d
+    → (1 ≤ described d .roles) × (described d .roles ≤ mostRoles) × (1 ≤ described d .entries) × (described d .entries ≤ mostEntries) × (described d .rules ≤ mostRules)
+accepted-sizes d k = let r = k .roles in let c = k .concepts in let q = k .query in (omega arith, omega arith, omega arith, omega arith, omega arith)
+
+-- ---- laws for the code
+pub sizes-read : (rs cs qs : List ℕ) (x y : Bool) → x ≡ recordsTest 3 mostRoles rs → y ≡ recordsTest 6 mostEntries cs
+    → (x && (y && (leb 1 (length qs) && leb (length qs) 17))) ≡ sizesTest rs cs qs
+unfolding sizesTest
+sizes-read rs cs qs x y p q = rw (p, q) refl
+
+module _ (d : List ℕ) where
+  pub directory-parts : (a b c : ℕ) → directoryTest d ≡ true → a ≡ endAt d 0 0 → b ≡ endAt d 0 1 → c ≡ endAt d 0 2
+      → Parts (record { roles = a; concepts = b; query = c }) ≡ directoryOf d
+  unfolding directoryOf
+  directory-parts a b c f p q r = rw (f, p, q, r) refl
+
+  pub directory-off : directoryTest d ≡ false → Off ≡ directoryOf d
+  unfolding directoryOf
+  directory-off f = rw f refl
+
+  -- the parts of a description whose pairs fill it
+  pub directory-inside : (e : Ends) → Parts e ≡ directoryOf d
+      → So (directoryTest d) × (e .roles ≡ endAt d 0 0) × (e .concepts ≡ endAt d 0 1) × (e .query ≡ endAt d 0 2)
+      × (12 ≤ e .roles) × (e .roles ≤ e .concepts) × (e .concepts ≤ e .query) × (e .query ≡ length d)
+  unfolding directoryOf
+  directory-inside e q = go (directoryTest d) refl q
+    where
+      ends : Ends
+      ends = record { roles = endAt d 0 0; concepts = endAt d 0 1; query = endAt d 0 2 }
+
+      go : (b : Bool) → directoryTest d ≡ b → Parts e ≡ cond b (Parts ends) Off
+          → So (directoryTest d) × (e .roles ≡ endAt d 0 0) × (e .concepts ≡ endAt d 0 1) × (e .query ≡ endAt d 0 2)
+          × (12 ≤ e .roles) × (e .roles ≤ e .concepts) × (e .concepts ≤ e .query) × (e .query ≡ length d)
+      go true f p =
+          let same : e ≡ ends = cc in
+          let F = fills↔ d 0 3 12 .0 f in
+          let a = ap (λ x. x .roles) same in let b = ap (λ x. x .concepts) same in let c = ap (λ x. x .query) same in
+          (f, a, b, c, omega (arith, a, F .1 .0 0 (omega arith)), omega (arith, a, b, F .1 .0 1 (omega arith)), omega (arith, b, c, F .1 .0 2 (omega arith)), c ∙ F .1 .1)
+      go false f p = absurd (let z : _≡_ {A = ℕ} 0 1 = cc in omega arith)

@@ -1,0 +1,4 @@
+pub mod Intake
+pub mod Steps
+pub mod Order
+pub mod Examples

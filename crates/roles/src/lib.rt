@@ -1,0 +1,105 @@
+// The ancestors of each role, and the roles that are not simple.
+ghost use mathlib.Core.Path.{_≡_};
+ghost use mathlib.Core.Bool.{cond};
+ghost use lib.Bits.{bitOr};
+ghost use lib.Dec.{eqb};
+ghost use Prim.Native.Nat.{ℕ, _+_, _*_, _/_, _<_, _≤_, _^_};
+ghost use lib.ListN.{length, getD};
+ghost use Rattle.logic.specs.Sets.{has};
+ghost use Rattle.roles.specs.Ancestors.{AncestorsOf, roleCount, passed, joined, aboveTransitive};
+use parts::byte;
+use parts::mask2;
+
+// Whether the mask holds `i`.
+pub fn has16(x: u16, i: u8) -> bool
+    ensures { λ r. ⌜ r ≡ has x i ⌝ }
+{
+    (i < 16) & ((x >> (i % 16)) % 2 == 1)
+}
+
+// The mask of role `i` with itself and its parents.
+fn own_mask(rs: &[u8], i: usize) -> u16
+    requires { ⌜ i < 16 ⌝ }
+    ensures { λ r. ⌜ r ≡ passed (now (rs .entry)) 0 i ⌝ }
+{
+    mask2(rs, 3 * i + 1) | (1 << i)
+}
+
+// The mask `x`, joined with `y` if it holds `k`.
+fn join(x: u16, y: u16, k: u8) -> u16
+    ensures { λ r. ⌜ r ≡ joined x y k ⌝ }
+{
+    if has16(x, k) { x | y } else { x }
+}
+
+// Each role with itself and its parents.
+fn start(rs: &[u8]) -> [u16; 16]
+    ensures { λ r. ⌜ ((m : ℕ) → m < 16 → getD r m 0 ≡ passed (now (rs .entry)) 0 m) ⌝ }
+{
+    let mut out = [0; 16];
+    let mut i = 0;
+    while i < 16 {
+        out[i] = own_mask(rs, i);
+        i += 1;
+    }
+    out
+}
+
+// Each mask that holds `k` joined with the mask of `k`.
+fn pass(a: [u16; 16], k: u8) -> [u16; 16]
+    requires { ⌜ k < 16 ⌝ }
+    ensures { λ r. ⌜ ((m : ℕ) → m < 16 → getD r m 0 ≡ joined (getD a m 0) (getD a k 0) k) ⌝ }
+{
+    let row = a[k as usize];
+    let mut out = a;
+    let mut i = 0;
+    while i < 16 {
+        out[i] = join(a[i], row, k);
+        i += 1;
+    }
+    out
+}
+
+// The number of roles of the part `rs`, or 16 if there are more.
+fn role_count(rs: &[u8]) -> u8
+    ensures { λ r. ⌜ (r ≡ roleCount (now (rs .entry))) × (r ≤ 16) ⌝ }
+{
+    let n = rs.len() / 3;
+    if n < 16 { (n % 256) as u8 } else { 16 }
+}
+
+// The mask with the ancestors of a role, if its transitive byte is 1.
+fn with_ancestors(x: u16, anc: u16, transitive: u8) -> u16
+    ensures { λ r. ⌜ (r ≡ cond (eqb transitive 1) (bitOr x anc) x) × (anc < 65536) ⌝ }
+{
+    if transitive == 1 { x | anc } else { x }
+}
+
+// The ancestors of each role of the part `rs`.
+pub fn ancestors(rs: &[u8]) -> [u16; 16]
+    ensures { λ r. ⌜ AncestorsOf (now (rs .entry)) r ⌝ }
+{
+    let n = role_count(rs);
+    let mut a = start(rs);
+    let mut k: u8 = 0;
+    while k < n {
+        let next = pass(a, k);
+        a = next;
+        k += 1;
+    }
+    a
+}
+
+// The roles that are not simple, if `a` holds the ancestors of each role.
+pub fn complex_roles(rs: &[u8], a: [u16; 16]) -> u16
+    ensures { λ r. ⌜ r ≡ aboveTransitive (now (rs .entry)) a (roleCount (now (rs .entry))) ⌝ }
+{
+    let n = role_count(rs) as usize;
+    let mut out: u16 = 0;
+    let mut t = 0;
+    while t < n {
+        out = with_ancestors(out, a[t], byte(rs, 3 * t));
+        t += 1;
+    }
+    out
+}

@@ -1,0 +1,133 @@
+// The tables of a description, read in place: the fields of an entry, their test, and the concept that they are.
+ghost use mathlib.Core.Path.{_≡_};
+ghost use mathlib.Core.Bool.{_&&_};
+ghost use Prim.Native.Nat.{_<_};
+ghost use lib.Dec.{eqb, leb, ltb};
+ghost use Rattle.tables.specs.Tables.{fieldsAt, fieldsTest};
+ghost use Rattle.tables.specs.Concepts.{fieldsStruct, fieldsIn, conceptAt};
+use parts::byte;
+use parts::read2;
+
+// The number of a role, and of an entry: never one for the other.
+pub struct RoleNo(pub u8);
+
+pub struct EntryNo(pub u8);
+
+pub enum Side {
+    Lower,
+    Upper,
+}
+
+// What a counting kind carries: its role, the literal that it counts, and its bound with the side on which it binds.
+pub struct Count {
+    pub role: RoleNo,
+    pub literal: u8,
+    pub bound: usize,
+    pub side: Side,
+}
+
+pub enum Concept {
+    Top,
+    Name,
+    Both(u8, u8),
+    Every(RoleNo, u8),
+    AtLeast(Count),
+}
+
+pub struct Fields {
+    pub kind: u8,
+    pub role: u8,
+    pub first: u8,
+    pub second: u8,
+    pub number: usize,
+}
+
+// The fields of entry `e`; bytes past the end count as 0.
+pub fn fields_at(cs: &[u8], e: EntryNo) -> Fields
+    ensures { λ r. ⌜ (r ≡ fieldsStruct (now (cs .entry)) (e .0)) × (r .number < 65536) ⌝ }
+{
+    let at = 6 * (e.0 as usize);
+    Fields {
+        kind: byte(cs, at),
+        role: byte(cs, at + 1),
+        first: byte(cs, at + 2),
+        second: byte(cs, at + 3),
+        number: read2(cs, at + 4),
+    }
+}
+
+// Tests of the fields that a kind uses, and that the others are 0: top and name,
+fn unused(f: Fields) -> bool
+    ensures { λ r. ⌜ r ≡ (eqb (f .role) 0 && (eqb (f .first) 0 && (eqb (f .second) 0 && eqb (f .number) 0))) ⌝ }
+{
+    (f.role == 0) & ((f.first == 0) & ((f.second == 0) & (f.number == 0)))
+}
+
+// both (`limit` is the first literal that the entry may not use),
+fn both_ok(f: Fields, limit: usize) -> bool
+    ensures { λ r. ⌜ r ≡ (eqb (f .role) 0 && (ltb (f .first) limit && (ltb (f .second) limit && eqb (f .number) 0))) ⌝ }
+{
+    (f.role == 0)
+        & (((f.first as usize) < limit) & (((f.second as usize) < limit) & (f.number == 0)))
+}
+
+// every,
+fn every_ok(f: Fields, limit: usize, roles: usize) -> bool
+    ensures { λ r. ⌜ r ≡ (ltb (f .role) roles && (ltb (f .first) limit && (eqb (f .second) 0 && eqb (f .number) 0))) ⌝ }
+{
+    ((f.role as usize) < roles)
+        & (((f.first as usize) < limit) & ((f.second == 0) & (f.number == 0)))
+}
+
+// and at least.
+fn at_least_ok(f: Fields, limit: usize, roles: usize) -> bool
+    ensures { λ r. ⌜ r ≡ (ltb (f .role) roles && (ltb (f .first) limit && (eqb (f .second) 0 && (leb 1 (f .number) && leb (f .number) 1000)))) ⌝ }
+{
+    ((f.role as usize) < roles)
+        & (((f.first as usize) < limit)
+            & ((f.second == 0) & ((1 <= f.number) & (f.number <= 1000))))
+}
+
+// Test 4 of entry `e`, in a table of `roles` roles.
+fn fields_ok(f: Fields, e: EntryNo, roles: usize) -> bool
+    ensures { λ r. ⌜ r ≡ fieldsTest roles (e .0) (fieldsIn f) ⌝ }
+{
+    let kind = f.kind;
+    let no = e.0;
+    let limit = 2 * (no as usize);
+    match kind {
+        0 => (no == 0) & unused(f),
+        1 => (0 < no) & unused(f),
+        2 => both_ok(f, limit),
+        3 => every_ok(f, limit, roles),
+        4 => at_least_ok(f, limit, roles),
+        _ => false,
+    }
+}
+
+// The same, of the entry in the part `cs`.
+pub fn entry_ok(cs: &[u8], e: EntryNo, roles: usize) -> bool
+    ensures { λ r. ⌜ r ≡ fieldsTest roles (e .0) (fieldsAt (now (cs .entry)) (e .0)) ⌝ }
+{
+    fields_ok(fields_at(cs, e), e, roles)
+}
+
+// The concept that entry `e` is; a kind above 4 is read as 4.
+pub fn concept_at(cs: &[u8], e: EntryNo) -> Concept
+    ensures { λ r. ⌜ r ≡ conceptAt (now (cs .entry)) (e .0) ⌝ }
+{
+    let f = fields_at(cs, e);
+    let kind = f.kind;
+    match kind {
+        0 => Concept::Top,
+        1 => Concept::Name,
+        2 => Concept::Both(f.first, f.second),
+        3 => Concept::Every(RoleNo(f.role), f.first),
+        _ => Concept::AtLeast(Count {
+            role: RoleNo(f.role),
+            literal: f.first,
+            bound: f.number,
+            side: Side::Lower,
+        }),
+    }
+}
