@@ -1,14 +1,12 @@
 -- The tests of single items as the code makes them, on bytes and masks, and that in their order they are the tests of the description.
-use Prim.Native.Nat.{ℕ, zero, suc, _+_, _-_, _*_, _/_, _%_, _^_, _≤_, _<_}
+use Prim.Native.Nat.{ℕ, zero, suc, _+_, _-_, _*_, _/_, _≤_, _<_}
 use mathlib.Core.Path.{_≡_, refl, sym, _∙_, ap, subst}
 use mathlib.Core.Bool.{Bool, true, false, not, _&&_}
 use mathlib.Core.List.{List}
 use mathlib.Core.Option.{Option, none}
 use native.Mathlib.Omega.{arith}
-use native.Mathlib.Nat.{mod-eq-of-lt, one-mul}
 use lib.Dec.{eqb, leb, ltb}
 use lib.ListN.{length, getD}
-use lib.Pow.{pow-mono}
 use Rattle.logic.specs.Tests.{not-not, not-and, So, _⇒_, so-and, and-l, and-r, so-ltb, ltb-so, same-test, reading}
 use Rattle.logic.specs.Bounded.{allBelow, anyBelow, all-intro, all-elim, all-cong}
 use Rattle.logic.specs.Sets.{has, narrow}
@@ -76,11 +74,6 @@ laterTest rs cs qs a complex =
 
 unfoldable pub stepsTest : List ℕ → List ℕ → List ℕ → List ℕ → ℕ → Option ℕ
 stepsTest rs cs qs a complex = unless (sizesTest rs cs qs) 2 (unless (rolesCode rs) 3 (unless (entriesCode rs cs) 4 (laterTest rs cs qs a complex)))
-
-pub fits-shl : (m n : ℕ) → n ≤ 16 → ltb m (1 * 2 ^ n % 18446744073709551616) ≡ narrow m n
-unfolding narrow
-fits-shl m n h = let q : 2 ^ n ≤ 2 ^ 16 = pow-mono h in
-    ap (ltb m) (ap (λ k. k % 18446744073709551616) (one-mul (2 ^ n)) ∙ mod-eq-of-lt (omega (arith, q)))
 
 -- ---- each is the test of the description
 -- 4: the fields test is "of the form of an entry, and that entry keeps its rule"

@@ -1,14 +1,14 @@
 -- Laws of sets as numbers, for any width: membership decides a set, and each operation is told by its members.
 use Prim.Native.Nat.{ℕ, zero, suc, _+_, _*_, _/_, _%_, _^_, _<_, _≤_, min, max}
 use mathlib.Core.Path.{_≡_, refl, _∙_, sym, ap, subst}
-use mathlib.Core.Bool.{Bool, true, false, _||_}
+use mathlib.Core.Bool.{Bool, true, false, _&&_, _||_}
 use mathlib.Core.Logic.{_↔_, _⊎_, inl, inr}
 use native.Mathlib.Omega.{arith}
 use native.Mathlib.Decide.{decLe, decLt}
-use native.Mathlib.Nat.{div-one, div-eq-of-lt, div-self, div-div-eq-div-mul, mod-lt, mul-comm, pow-suc}
+use native.Mathlib.Nat.{div-one, div-eq-of-lt, div-self, div-div-eq-div-mul, mod-eq-of-lt, mod-lt, one-mul, mul-comm, pow-suc}
 use lib.Arith.{digits-mod}
-use lib.Pow.{pow-mono, pow-pos}
-use lib.Dec.{eqb}
+use lib.Pow.{pow-lt, pow-mono, pow-pos}
+use lib.Dec.{eqb, ltb}
 use lib.Bits.{bitAnd, bitOr, and-step, and-shr, or-step, or-shr}
 use Rattle.logic.specs.Tests.{So, so-eqb, so-false, or-l, or-r, or-cases, so-ltb, ltb-so, eqb↔}
 use Rattle.logic.specs.Sums.{only, only-le}
@@ -67,6 +67,14 @@ has-lt k n i h e = elim (decLt i k) [
       absurd (omega (arith, has-digit n i e, ap (λ (x : ℕ). x % 2) z))
 ]
 
+-- membership in a word of k digits, as code tests it: a shift by less than k
+pub has-word : (k n i : ℕ) → n < 2 ^ k → (ltb i k && eqb (n / 2 ^ (i % k) % 2) 1) ≡ has n i
+unfolding has
+has-word k n i h = elim (decLt i k) [
+  | yes l ↦ rw (ltb-so i k l, mod-eq-of-lt l) refl
+  | no l ↦ rw (so-false (ltb i k) (λ u. l (so-ltb i k u))) (sym (so-false (has n i) (λ u. l (has-lt k n i h u))))
+]
+
 pub no-member : (i : ℕ) → So (has 0 i) → ⊥
 no-member i h = absurd (omega (arith, has-lt 0 0 i (omega arith) h))
 
@@ -89,6 +97,11 @@ nonempty↔ n = (
     | no q ↦ absurd (let z : n ≡ 0 = omega arith in no-member (w .0) (subst (λ m. So (has m (w .0))) z (w .1)))
   ]),
 )
+
+-- a set below n in a word of k digits, as code tests it: against a shifted 1
+pub narrow-word : (k x n : ℕ) → n < k → ltb x (1 * 2 ^ n % 2 ^ k) ≡ narrow x n
+unfolding narrow
+narrow-word k x n h = ap (ltb x) (ap (λ m. m % 2 ^ k) (one-mul (2 ^ n)) ∙ mod-eq-of-lt (pow-lt h))
 
 -- a set whose members are below k is a number below 2 ^ k
 pub lt-has : (k n : ℕ) → ((i : ℕ) → So (has n i) → i < k) → n < 2 ^ k

@@ -13,7 +13,7 @@ use borrow.Author.Tests.{lt-ltb, le-ltb}
 use lib.Dec.{eqb, ltb}
 use lib.Pow.{pow-lt}
 use lib.ListN.{length, getD}
-use Rattle.logic.specs.Tests.{So, or-l, or-r, or-cases, so-eqb, so-false, so-not, not-so, eqb↔, not-not, same-test}
+use Rattle.logic.specs.Tests.{So, or-l, or-r, or-cases, so-eqb, so-not, not-so, eqb↔, not-not, same-test}
 use Rattle.logic.specs.Bounded.{allBelow, anyBelow, any-intro, any-elim, any-cong, all-elim, all-not}
 use Rattle.logic.specs.Closure.{closure, closure-own}
 use Rattle.logic.specs.Sets.{has, with, setOf}
@@ -57,13 +57,6 @@ abbrev pub joined : ℕ → ℕ → ℕ → ℕ
 joined x y k = cond (has x k) (bitOr x y) x
 
 -- ---- laws for the code
-pub has-16 : (x i : ℕ) → x < 65536 → (ltb i 16 && eqb (x / 2 ^ (i % 16) % 2) 1) ≡ has x i
-unfolding has
-has-16 x i h = elim (decLt i 16) [
-  | yes l ↦ rw (lt-ltb _ _ l, mod-eq-of-lt l) refl
-  | no l ↦ rw (le-ltb _ _ (let z : 16 ≤ i = omega arith in z)) (sym (so-false (has x i) (λ u. l (has-lt 16 x i h u))))
-]
-
 -- a mask is the set of its members
 own-members : (x : ℕ) → x < 65536 → setOf 16 (has x) ≡ x
 own-members x h = set-ext (setOf 16 (has x)) x (λ i u. setOf↔ 16 (has x) i .0 u .1) (λ i u. setOf↔ 16 (has x) i .1 (has-lt 16 x i h u, u))

@@ -1,9 +1,8 @@
 -- Fields and concepts as the code holds them.
-use Prim.Native.Nat.{ℕ, suc, _+_, _-_, _*_}
+use Prim.Native.Nat.{ℕ, suc, _-_}
 use mathlib.Core.Path.{_≡_, refl}
 use mathlib.Core.List.{List}
 use native.Mathlib.Omega.{arith}
-use Rattle.parts.specs.Numbers.{byteAt, num2}
 use Rattle.description.specs.Literals.{code, code-literal}
 use Rattle.description.specs.Descriptions.{Entry, top, name, both, every, atLeast, entryFrom, entryOfFields}
 use Rattle.description.specs.Descriptions as Theory
@@ -13,19 +12,16 @@ use Rattle.tables.specs.declared.Concept.{Concept}
 use Rattle.tables.specs.declared.Concept.the-variants.{Top, Name, Both, Every, AtLeast}
 use Rattle.tables.specs.declared.Side.the-variants.{Lower}
 
--- the code's fields of entry e
-abbrev pub fieldsStruct : List ℕ → ℕ → Fields
-fieldsStruct cs e = record {
-  kind = byteAt cs (6 * e);
-  role = byteAt cs (6 * e + 1);
-  first = byteAt cs (6 * e + 2);
-  second = byteAt cs (6 * e + 3);
-  number = num2 cs (6 * e + 4);
-}
+-- the theory's fields as the code's, and back
+abbrev pub fieldsOut : Theory.Fields → Fields
+fieldsOut F = record { kind = F .kind; role = F .role; first = F .first; second = F .second; number = F .number }
 
--- the code's fields as the theory's
 abbrev pub fieldsIn : Fields → Theory.Fields
 fieldsIn F = record { kind = F .kind; role = F .role; first = F .first; second = F .second; number = F .number }
+
+-- the code's fields of entry e
+abbrev pub fieldsStruct : List ℕ → ℕ → Fields
+fieldsStruct cs e = fieldsOut (fieldsAt cs e)
 
 -- an entry as a concept: literals by their numbers; the side of an "at least" is the lower
 unfoldable pub conceptOf : Entry → Concept

@@ -9,39 +9,30 @@ use Rattle.description_vectors.proofs.decode.Reads as decode-reads
 use Rattle.description_vectors.proofs.print_tested.Reads as print-tested-reads
 use Rattle.intake.proofs.test_description.Reads as test-description-reads
 
--- src/main.rt:61:12
 shared-slice-read-if2 : tie.Need-shared-slice-read-if2
 shared-slice-read-if2 c = search needs
 
--- src/main.rt:62:13
 returns : tie.Need-returns
 returns c = search needs
 
--- src/main.rt:66:26
 slice-aggregate-decode : tie.Need-slice-aggregate-decode
 slice-aggregate-decode c = search needs
 
--- src/main.rt:66:9
 decode-requires : tie.Need-decode-requires
 decode-requires c κs = search needs
 
--- src/main.rt:67:43
 array-share-prefix-space : tie.Need-array-share-prefix-space
 array-share-prefix-space c = search needs
 
--- src/main.rt:67:43
 slice-aggregate-test-description : tie.Need-slice-aggregate-test-description
 slice-aggregate-test-description c = sym (length-take-le _ _ (c .before .before .decode .ensures))
 
--- src/main.rt:67:18
 test-description-requires : tie.Need-test-description-requires
 test-description-requires c κs = search needs
 
--- src/main.rt:67:5
 print-tested-requires : tie.Need-print-tested-requires
 print-tested-requires c κs = search needs
 
--- src/main.rt:59:1
 returns-2 : tie.Need-returns-2
 returns-2 c = search needs
 

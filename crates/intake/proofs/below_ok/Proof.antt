@@ -14,23 +14,18 @@ use Rattle.intake.proofs.every_there.Reads as every-there-reads
 use Rattle.intake.proofs.transitive.Reads as transitive-reads
 use Rattle.roles.proofs.has16.Reads as has16-reads
 
--- src/lib.rt:208:8
 transitive-requires : tie.Need-transitive-requires
 transitive-requires c κs = search needs
 
--- src/lib.rt:208:28
 has16-requires : tie.Need-has16-requires
 has16-requires c κs = search needs
 
--- src/lib.rt:208:46
 every-there-requires : tie.Need-every-there-requires
 every-there-requires c κs = search needs
 
--- src/lib.rt:204:1
 returns : tie.Need-returns
 returns c = c .every-there .ensures ∙ premises-hold (eqb (byteAt (c .before .before .before .before .before .before .args .rs .now) (3 * c .before .before .before .before .before .before .args .t .0)) 1) (has (c .before .before .before .before .before .before .args .anc) (c .before .before .before .before .before .before .args .r .0)) (everyThere (c .before .before .before .before .before .before .args .cs .now) (c .before .before .before .before .before .before .args .t .0) (c .before .before .before .before .before .before .args .l)) (rw (← c .before .before .before .transitive .ensures, ← c .before .before .has16 .ensures) (c .before .if1 .taken))
 
--- src/lib.rt:204:1
 returns-2 : tie.Need-returns-2
 returns-2 c = premise-fails (eqb (byteAt (c .before .before .before .before .before .args .rs .now) (3 * c .before .before .before .before .before .args .t .0)) 1) (has (c .before .before .before .before .before .args .anc) (c .before .before .before .before .before .args .r .0)) (everyThere (c .before .before .before .before .before .args .cs .now) (c .before .before .before .before .before .args .t .0) (c .before .before .before .before .before .args .l)) (rw (← c .before .before .transitive .ensures, ← c .before .has16 .ensures) (c .if1 .left))
 

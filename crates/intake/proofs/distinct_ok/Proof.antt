@@ -17,31 +17,24 @@ Inv-loop cs f n e₀ e = (e ≤ n) × (allBelow e (λ e. not (twinAt cs (f .0) e
 abbrev μ-loop : tie.MeasureT-loop
 μ-loop cs f n e₀ e = n - e
 
--- src/lib.rt:174:5
 loop-holds : tie.Need-loop-holds Inv-loop μ-loop
 loop-holds c = (omega arith, all-none _)
 
--- src/lib.rt:175:12
 twin-requires : tie.Need-twin-requires Inv-loop μ-loop
 twin-requires c κs = search needs
 
--- src/lib.rt:176:13
 returns : tie.Need-returns Inv-loop μ-loop
 returns c = sym (all-stop _ (c .before .before .before .loop .e) _ (omega arith) (ap not (sym (c .before .twin .ensures) ∙ c .if1 .taken)))
 
--- src/lib.rt:178:9
 add-e : tie.Need-add-e Inv-loop μ-loop
 add-e c = omega arith
 
--- src/lib.rt:174:5
 loop-less : tie.Need-loop-less Inv-loop μ-loop
 loop-less c = omega arith
 
--- src/lib.rt:174:5
 loop-again : tie.Need-loop-again Inv-loop μ-loop
 loop-again c = (omega arith, all-more _ (c .before .before .before .loop .e) (c .before .before .before .loop .inv .1) (ap not (sym (c .before .twin .ensures) ∙ c .if1 .left)))
 
--- src/lib.rt:169:1
 returns-2 : tie.Need-returns-2 Inv-loop μ-loop
 returns-2 c = sym (all-done _ (c .before .loop .e) _ (omega arith) (omega arith) (c .before .loop .inv .1))
 

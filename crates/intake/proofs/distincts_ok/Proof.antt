@@ -18,35 +18,27 @@ Inv-loop cs n f₀ f = (f ≤ n) × (allBelow f (λ f. allBelow f (λ e. not (tw
 abbrev μ-loop : tie.MeasureT-loop
 μ-loop cs n f₀ f = n - f
 
--- src/lib.rt:165:5
 loop-holds : tie.Need-loop-holds Inv-loop μ-loop
 loop-holds c = (omega arith, all-none _)
 
--- src/lib.rt:165:12
 cast-loop : tie.Need-cast-loop Inv-loop μ-loop
 cast-loop c = omega arith
 
--- src/lib.rt:166:13
 distinct-ok-requires : tie.Need-distinct-ok-requires Inv-loop μ-loop
 distinct-ok-requires c κs = search needs
 
--- src/lib.rt:167:13
 returns : tie.Need-returns Inv-loop μ-loop
 returns c = sym (all-stop _ (c .before .before .before .loop .f) _ (omega arith) (sym (c .before .distinct-ok .ensures) ∙ not-true _ (c .if1 .taken)))
 
--- src/lib.rt:169:9
 add-f : tie.Need-add-f Inv-loop μ-loop
 add-f c = omega arith
 
--- src/lib.rt:165:5
 loop-less : tie.Need-loop-less Inv-loop μ-loop
 loop-less c = omega arith
 
--- src/lib.rt:165:5
 loop-again : tie.Need-loop-again Inv-loop μ-loop
 loop-again c = (omega arith, all-more _ (c .before .before .before .loop .f) (c .before .before .before .loop .inv .1) (sym (c .before .distinct-ok .ensures) ∙ not-false _ (c .if1 .left)))
 
--- src/lib.rt:159:1
 returns-2 : tie.Need-returns-2 Inv-loop μ-loop
 returns-2 c = sym (all-done _ (c .before .loop .f) _ (omega arith) (omega arith) (c .before .loop .inv .1))
 

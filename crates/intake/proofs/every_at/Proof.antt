@@ -11,51 +11,39 @@ use Rattle.intake.proofs.every_at.Lts as lts
 use Rattle.intake.proofs.every_ok.Reads as every-ok-reads
 use Rattle.tables.proofs.concept_at.Reads as concept-at-reads
 
--- src/lib.rt:232:9
 concept-at-requires : tie.Need-concept-at-requires
 concept-at-requires c κs = search needs
 
--- src/lib.rt:234:24
 enum-known-c : tie.Need-enum-known-c
 enum-known-c c = search needs
 
--- src/lib.rt:234:33
 every-ok-requires : tie.Need-every-ok-requires
 every-ok-requires c κs = search needs
 
--- src/lib.rt:235:25
 enum-told : tie.Need-enum-told
 enum-told c = search needs
 
--- src/lib.rt:236:26
 enum-told-2 : tie.Need-enum-told-2
 enum-told-2 c = search needs
 
--- src/lib.rt:237:32
 enum-told-3 : tie.Need-enum-told-3
 enum-told-3 c = search needs
 
--- src/lib.rt:238:32
 enum-told-4 : tie.Need-enum-told-4
 enum-told-4 c = search needs
 
--- src/lib.rt:228:1
 returns : tie.Need-returns
 returns c = c .every-ok .ensures ∙ (ap (ofEvery (λ r l. allBelow (length (c .before .before .before .before .before .before .before .args .rs .now) / 3) (everyBelowAt (c .before .before .before .before .before .before .before .args .rs .now) (c .before .before .before .before .before .before .before .args .cs .now) (c .before .before .before .before .before .before .before .args .a) r l))) (sym (c .before .before .c .given .1)) ∙ every-kind-read (c .before .before .before .before .before .before .before .args .cs .now) (λ r l. allBelow (length (c .before .before .before .before .before .before .before .args .rs .now) / 3) (everyBelowAt (c .before .before .before .before .before .before .before .args .rs .now) (c .before .before .before .before .before .before .before .args .cs .now) (c .before .before .before .before .before .before .before .args .a) r l)) (c .before .before .before .before .before .before .before .args .e .0) _ (c .before .before .before .before .concept-at .ensures))
 
--- src/lib.rt:228:1
 returns-2 : tie.Need-returns-2
 returns-2 c = ap (ofEvery (λ r l. allBelow (length (c .before .before .before .before .before .args .rs .now) / 3) (everyBelowAt (c .before .before .before .before .before .args .rs .now) (c .before .before .before .before .before .args .cs .now) (c .before .before .before .before .before .args .a) r l))) (sym (c .enum-told .given .1)) ∙ every-kind-read (c .before .before .before .before .before .args .cs .now) (λ r l. allBelow (length (c .before .before .before .before .before .args .rs .now) / 3) (everyBelowAt (c .before .before .before .before .before .args .rs .now) (c .before .before .before .before .before .args .cs .now) (c .before .before .before .before .before .args .a) r l)) (c .before .before .before .before .before .args .e .0) _ (c .before .before .concept-at .ensures)
 
--- src/lib.rt:228:1
 returns-3 : tie.Need-returns-3
 returns-3 c = ap (ofEvery (λ r l. allBelow (length (c .before .before .before .before .before .args .rs .now) / 3) (everyBelowAt (c .before .before .before .before .before .args .rs .now) (c .before .before .before .before .before .args .cs .now) (c .before .before .before .before .before .args .a) r l))) (sym (c .enum-told2 .given .1)) ∙ every-kind-read (c .before .before .before .before .before .args .cs .now) (λ r l. allBelow (length (c .before .before .before .before .before .args .rs .now) / 3) (everyBelowAt (c .before .before .before .before .before .args .rs .now) (c .before .before .before .before .before .args .cs .now) (c .before .before .before .before .before .args .a) r l)) (c .before .before .before .before .before .args .e .0) _ (c .before .before .concept-at .ensures)
 
--- src/lib.rt:228:1
 returns-4 : tie.Need-returns-4
 returns-4 c = ap (ofEvery (λ r l. allBelow (length (c .before .before .before .before .before .args .rs .now) / 3) (everyBelowAt (c .before .before .before .before .before .args .rs .now) (c .before .before .before .before .before .args .cs .now) (c .before .before .before .before .before .args .a) r l))) (sym (c .enum-told3 .given .1)) ∙ every-kind-read (c .before .before .before .before .before .args .cs .now) (λ r l. allBelow (length (c .before .before .before .before .before .args .rs .now) / 3) (everyBelowAt (c .before .before .before .before .before .args .rs .now) (c .before .before .before .before .before .args .cs .now) (c .before .before .before .before .before .args .a) r l)) (c .before .before .before .before .before .args .e .0) _ (c .before .before .concept-at .ensures)
 
--- src/lib.rt:228:1
 returns-5 : tie.Need-returns-5
 returns-5 c = ap (ofEvery (λ r l. allBelow (length (c .before .before .before .before .before .args .rs .now) / 3) (everyBelowAt (c .before .before .before .before .before .args .rs .now) (c .before .before .before .before .before .args .cs .now) (c .before .before .before .before .before .args .a) r l))) (sym (c .enum-told4 .given .1)) ∙ every-kind-read (c .before .before .before .before .before .args .cs .now) (λ r l. allBelow (length (c .before .before .before .before .before .args .rs .now) / 3) (everyBelowAt (c .before .before .before .before .before .args .rs .now) (c .before .before .before .before .before .args .cs .now) (c .before .before .before .before .before .args .a) r l)) (c .before .before .before .before .before .args .e .0) _ (c .before .before .concept-at .ensures)
 

@@ -18,47 +18,36 @@ Inv-loop rs cs r l a n t₀ t = (t ≤ n) × (allBelow t (everyBelowAt rs cs a (
 abbrev μ-loop : tie.MeasureT-loop
 μ-loop rs cs r l a n t₀ t = n - t
 
--- src/lib.rt:218:5
 loop-holds : tie.Need-loop-holds Inv-loop μ-loop
 loop-holds c = (omega arith, all-none _)
 
--- src/lib.rt:218:12
 cast-loop : tie.Need-cast-loop Inv-loop μ-loop
 cast-loop c = omega arith
 
--- src/lib.rt:219:32
 cast-below-ok : tie.Need-cast-below-ok Inv-loop μ-loop
 cast-below-ok c = omega arith
 
--- src/lib.rt:219:30
 mul-below-ok : tie.Need-mul-below-ok Inv-loop μ-loop
 mul-below-ok c = omega arith
 
--- src/lib.rt:219:30
 array-read-below-ok : tie.Need-array-read-below-ok Inv-loop μ-loop
 array-read-below-ok c = omega arith
 
--- src/lib.rt:219:13
 below-ok-requires : tie.Need-below-ok-requires Inv-loop μ-loop
 below-ok-requires c κs = search needs
 
--- src/lib.rt:220:13
 returns : tie.Need-returns Inv-loop μ-loop
 returns c = sym (all-stop _ (c .before .before .before .loop .t) _ (omega arith) (sym (c .before .below-ok .ensures) ∙ not-true _ (c .if1 .taken)))
 
--- src/lib.rt:222:9
 add-t : tie.Need-add-t Inv-loop μ-loop
 add-t c = omega arith
 
--- src/lib.rt:218:5
 loop-less : tie.Need-loop-less Inv-loop μ-loop
 loop-less c = omega arith
 
--- src/lib.rt:218:5
 loop-again : tie.Need-loop-again Inv-loop μ-loop
 loop-again c = (omega arith, all-more _ (c .before .before .before .loop .t) (c .before .before .before .loop .inv .1) (sym (c .before .below-ok .ensures) ∙ not-false _ (c .if1 .left)))
 
--- src/lib.rt:212:1
 returns-2 : tie.Need-returns-2 Inv-loop μ-loop
 returns-2 c = sym (all-done _ (c .before .loop .t) _ (omega arith) (omega arith) (c .before .loop .inv .1))
 

@@ -19,35 +19,27 @@ Inv-loop cs t l n f₀ f = (f ≤ n) × (n ≤ 32) × (anyBelow f (λ f. sameEnt
 abbrev μ-loop : tie.MeasureT-loop
 μ-loop cs t l n f₀ f = n - f
 
--- src/lib.rt:185:5
 loop-holds : tie.Need-loop-holds Inv-loop μ-loop
 loop-holds c = (omega arith, omega arith, any-none _)
 
--- src/lib.rt:185:12
 cast-loop : tie.Need-cast-loop Inv-loop μ-loop
 cast-loop c = omega arith
 
--- src/lib.rt:186:12
 is-every-requires : tie.Need-is-every-requires Inv-loop μ-loop
 is-every-requires c κs = search needs
 
--- src/lib.rt:187:13
 returns : tie.Need-returns Inv-loop μ-loop
 returns c = sym (any-stop _ (c .before .before .before .loop .f) _ (omega arith) (sym (c .before .is-every .ensures) ∙ c .if1 .taken))
 
--- src/lib.rt:189:9
 add-f : tie.Need-add-f Inv-loop μ-loop
 add-f c = omega arith
 
--- src/lib.rt:185:5
 loop-less : tie.Need-loop-less Inv-loop μ-loop
 loop-less c = omega arith
 
--- src/lib.rt:185:5
 loop-again : tie.Need-loop-again Inv-loop μ-loop
 loop-again c = (omega arith, c .before .before .before .loop .inv .1, any-more _ (c .before .before .before .loop .f) (c .before .before .before .loop .inv .2) (sym (c .before .is-every .ensures) ∙ c .if1 .left))
 
--- src/lib.rt:179:1
 returns-2 : tie.Need-returns-2 Inv-loop μ-loop
 returns-2 c = sym (any-done _ (c .before .loop .f) _ (omega arith) (omega arith) (c .before .loop .inv .2))
 

@@ -6,11 +6,9 @@ use Rattle.intake.proofs.is_every.Reads as reads
 use Rattle.intake.proofs.is_every.Lts as lts
 use Rattle.tables.proofs.fields_at.Reads as fields-at-reads
 
--- src/lib.rt:175:9
 fields-at-requires : tie.Need-fields-at-requires
 fields-at-requires c κs = search needs
 
--- src/lib.rt:172:1
 returns : tie.Need-returns
 returns c = every-read (c .before .before .before .before .before .before .args .cs .now) _ (c .before .before .before .before .before .before .args .t .0) (c .before .before .before .before .before .before .args .l) _ (c .before .before .before .before .fields-at .ensures .0)
 

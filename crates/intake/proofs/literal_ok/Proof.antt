@@ -7,15 +7,12 @@ use Rattle.intake.proofs.literal_ok.Reads as reads
 use Rattle.intake.proofs.literal_ok.Lts as lts
 use Rattle.parts.proofs.byte.Reads as byte-reads
 
--- src/lib.rt:284:6
 byte-requires : tie.Need-byte-requires
 byte-requires c κs = search needs
 
--- src/lib.rt:284:6
 cast-result : tie.Need-cast-result
 cast-result c = search needs
 
--- src/lib.rt:281:1
 returns : tie.Need-returns
 returns c = ap (λ x. ltb x (c .before .before .args .limit)) (c .byte .ensures)
 

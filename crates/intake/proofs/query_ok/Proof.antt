@@ -19,31 +19,24 @@ Inv-loop qs limit n i₀ i = (i ≤ n) × (allBelow i (λ i. ltb (byteAt qs i) l
 abbrev μ-loop : tie.MeasureT-loop
 μ-loop qs limit n i₀ i = n - i
 
--- src/lib.rt:269:5
 loop-holds : tie.Need-loop-holds Inv-loop μ-loop
 loop-holds c = (omega arith, all-none _)
 
--- src/lib.rt:270:13
 literal-ok-requires : tie.Need-literal-ok-requires Inv-loop μ-loop
 literal-ok-requires c κs = search needs
 
--- src/lib.rt:271:13
 returns : tie.Need-returns Inv-loop μ-loop
 returns c = sym (all-stop _ (c .before .before .before .loop .i) _ (omega arith) (sym (c .before .literal-ok .ensures) ∙ not-true _ (c .if1 .taken)))
 
--- src/lib.rt:273:9
 add-i : tie.Need-add-i Inv-loop μ-loop
 add-i c = omega arith
 
--- src/lib.rt:269:5
 loop-less : tie.Need-loop-less Inv-loop μ-loop
 loop-less c = omega arith
 
--- src/lib.rt:269:5
 loop-again : tie.Need-loop-again Inv-loop μ-loop
 loop-again c = (omega arith, all-more _ (c .before .before .before .loop .i) (c .before .before .before .loop .inv .1) (sym (c .before .literal-ok .ensures) ∙ not-false _ (c .if1 .left)))
 
--- src/lib.rt:264:1
 returns-2 : tie.Need-returns-2 Inv-loop μ-loop
 returns-2 c = sym (all-done _ (c .before .loop .i) _ (omega arith) (omega arith) (c .before .loop .inv .1))
 

@@ -8,31 +8,24 @@ use Rattle.intake.proofs.fits.Reads as fits-reads
 use Rattle.parts.proofs.byte.Reads as byte-reads
 use Rattle.parts.proofs.mask2.Reads as mask2-reads
 
--- src/lib.rt:87:19
 cast-at : tie.Need-cast-at
 cast-at c = search needs
 
--- src/lib.rt:87:14
 mul-at : tie.Need-mul-at
 mul-at c = search needs
 
--- src/lib.rt:88:6
 byte-requires : tie.Need-byte-requires
 byte-requires c κs = search needs
 
--- src/lib.rt:88:42
 add-mask2 : tie.Need-add-mask2
 add-mask2 c = search needs
 
--- src/lib.rt:88:32
 mask2-requires : tie.Need-mask2-requires
 mask2-requires c κs = search needs
 
--- src/lib.rt:88:27
 fits-requires : tie.Need-fits-requires
 fits-requires c κs = search needs
 
--- src/lib.rt:83:1
 returns : tie.Need-returns
 returns c = rw (c .fits2 .ensures, c .before .mask2 .ensures, c .before .before .byte .ensures) refl
 

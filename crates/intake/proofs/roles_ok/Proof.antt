@@ -18,35 +18,27 @@ Inv-loop rs n r₀ r = (r ≤ n) × (n ≤ 16) × (allBelow r (roleAt rs) ≡ tr
 abbrev μ-loop : tie.MeasureT-loop
 μ-loop rs n r₀ r = n - r
 
--- src/lib.rt:98:5
 loop-holds : tie.Need-loop-holds Inv-loop μ-loop
 loop-holds c = (omega arith, omega arith, all-none _)
 
--- src/lib.rt:98:12
 cast-loop : tie.Need-cast-loop Inv-loop μ-loop
 cast-loop c = omega arith
 
--- src/lib.rt:99:13
 role-ok-requires : tie.Need-role-ok-requires Inv-loop μ-loop
 role-ok-requires c κs = search needs
 
--- src/lib.rt:100:13
 returns : tie.Need-returns Inv-loop μ-loop
 returns c = sym (all-stop _ (c .before .before .before .loop .r) _ (omega arith) (sym (c .before .role-ok .ensures) ∙ not-true _ (c .if1 .taken)))
 
--- src/lib.rt:102:9
 add-r : tie.Need-add-r Inv-loop μ-loop
 add-r c = omega arith
 
--- src/lib.rt:98:5
 loop-less : tie.Need-loop-less Inv-loop μ-loop
 loop-less c = omega arith
 
--- src/lib.rt:98:5
 loop-again : tie.Need-loop-again Inv-loop μ-loop
 loop-again c = (omega arith, c .before .before .before .loop .inv .1, all-more _ (c .before .before .before .loop .r) (c .before .before .before .loop .inv .2) (sym (c .before .role-ok .ensures) ∙ not-false _ (c .if1 .left)))
 
--- src/lib.rt:92:1
 returns-2 : tie.Need-returns-2 Inv-loop μ-loop
 returns-2 c = sym (all-done _ (c .before .loop .r) _ (omega arith) (omega arith) (c .before .loop .inv .2))
 

@@ -10,51 +10,39 @@ use Rattle.intake.proofs.simple_ok.Lts as lts
 use Rattle.roles.proofs.has16.Reads as has16-reads
 use Rattle.tables.proofs.concept_at.Reads as concept-at-reads
 
--- src/lib.rt:106:9
 concept-at-requires : tie.Need-concept-at-requires
 concept-at-requires c κs = search needs
 
--- src/lib.rt:108:26
 enum-known-c : tie.Need-enum-known-c
 enum-known-c c = search needs
 
--- src/lib.rt:110:14
 has16-requires : tie.Need-has16-requires
 has16-requires c κs = search needs
 
--- src/lib.rt:112:25
 enum-told : tie.Need-enum-told
 enum-told c = search needs
 
--- src/lib.rt:113:26
 enum-told-2 : tie.Need-enum-told-2
 enum-told-2 c = search needs
 
--- src/lib.rt:114:32
 enum-told-3 : tie.Need-enum-told-3
 enum-told-3 c = search needs
 
--- src/lib.rt:115:33
 enum-told-4 : tie.Need-enum-told-4
 enum-told-4 c = search needs
 
--- src/lib.rt:103:1
 returns : tie.Need-returns
 returns c = ap not (c .has16 .ensures) ∙ (ap (ofLeast (λ r. not (has (c .before .before .before .before .before .before .before .args .complex) r))) (sym (c .before .before .before .c .given .1)) ∙ least-read (c .before .before .before .before .before .before .before .args .cs .now) (λ r. not (has (c .before .before .before .before .before .before .before .args .complex) r)) (c .before .before .before .before .before .before .before .args .e .0) _ (c .before .before .before .before .before .concept-at .ensures))
 
--- src/lib.rt:103:1
 returns-2 : tie.Need-returns-2
 returns-2 c = ap (ofLeast (λ r. not (has (c .before .before .before .before .args .complex) r))) (sym (c .enum-told .given .1)) ∙ least-read (c .before .before .before .before .args .cs .now) (λ r. not (has (c .before .before .before .before .args .complex) r)) (c .before .before .before .before .args .e .0) _ (c .before .before .concept-at .ensures)
 
--- src/lib.rt:103:1
 returns-3 : tie.Need-returns-3
 returns-3 c = ap (ofLeast (λ r. not (has (c .before .before .before .before .args .complex) r))) (sym (c .enum-told2 .given .1)) ∙ least-read (c .before .before .before .before .args .cs .now) (λ r. not (has (c .before .before .before .before .args .complex) r)) (c .before .before .before .before .args .e .0) _ (c .before .before .concept-at .ensures)
 
--- src/lib.rt:103:1
 returns-4 : tie.Need-returns-4
 returns-4 c = ap (ofLeast (λ r. not (has (c .before .before .before .before .args .complex) r))) (sym (c .enum-told3 .given .1)) ∙ least-read (c .before .before .before .before .args .cs .now) (λ r. not (has (c .before .before .before .before .args .complex) r)) (c .before .before .before .before .args .e .0) _ (c .before .before .concept-at .ensures)
 
--- src/lib.rt:103:1
 returns-5 : tie.Need-returns-5
 returns-5 c = ap (ofLeast (λ r. not (has (c .before .before .before .before .args .complex) r))) (sym (c .enum-told4 .given .1)) ∙ least-read (c .before .before .before .before .args .cs .now) (λ r. not (has (c .before .before .before .before .args .complex) r)) (c .before .before .before .before .args .e .0) _ (c .before .before .concept-at .ensures)
 

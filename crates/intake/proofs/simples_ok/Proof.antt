@@ -18,35 +18,27 @@ Inv-loop cs complex n e₀ e = (e ≤ n) × (n ≤ 32) × (allBelow e (simpleAt 
 abbrev μ-loop : tie.MeasureT-loop
 μ-loop cs complex n e₀ e = n - e
 
--- src/lib.rt:122:5
 loop-holds : tie.Need-loop-holds Inv-loop μ-loop
 loop-holds c = (omega arith, omega arith, all-none _)
 
--- src/lib.rt:122:12
 cast-loop : tie.Need-cast-loop Inv-loop μ-loop
 cast-loop c = omega arith
 
--- src/lib.rt:123:13
 simple-ok-requires : tie.Need-simple-ok-requires Inv-loop μ-loop
 simple-ok-requires c κs = search needs
 
--- src/lib.rt:124:13
 returns : tie.Need-returns Inv-loop μ-loop
 returns c = sym (all-stop _ (c .before .before .before .loop .e) _ (omega arith) (sym (c .before .simple-ok .ensures) ∙ not-true _ (c .if1 .taken)))
 
--- src/lib.rt:126:9
 add-e : tie.Need-add-e Inv-loop μ-loop
 add-e c = omega arith
 
--- src/lib.rt:122:5
 loop-less : tie.Need-loop-less Inv-loop μ-loop
 loop-less c = omega arith
 
--- src/lib.rt:122:5
 loop-again : tie.Need-loop-again Inv-loop μ-loop
 loop-again c = (omega arith, c .before .before .before .loop .inv .1, all-more _ (c .before .before .before .loop .e) (c .before .before .before .loop .inv .2) (sym (c .before .simple-ok .ensures) ∙ not-false _ (c .if1 .left)))
 
--- src/lib.rt:116:1
 returns-2 : tie.Need-returns-2 Inv-loop μ-loop
 returns-2 c = sym (all-done _ (c .before .loop .e) _ (omega arith) (omega arith) (c .before .loop .inv .2))
 

@@ -6,15 +6,12 @@ use Rattle.intake.proofs.sizes_ok.Reads as reads
 use Rattle.intake.proofs.sizes_ok.Lts as lts
 use Rattle.intake.proofs.records_ok.Reads as records-ok-reads
 
--- src/lib.rt:80:5
 records-ok-requires : tie.Need-records-ok-requires
 records-ok-requires c κs = search needs
 
--- src/lib.rt:80:36
 records-ok-requires-2 : tie.Need-records-ok-requires-2
 records-ok-requires-2 c κs = search needs
 
--- src/lib.rt:76:1
 returns : tie.Need-returns
 returns c = sizes-read (c .before .before .before .before .before .args .rs .now) (c .before .before .before .before .before .args .cs .now) (c .before .before .before .before .before .args .qs .now) _ _ (c .before .records-ok .ensures) (c .records-ok2 .ensures)
 

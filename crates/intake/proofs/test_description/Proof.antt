@@ -10,63 +10,48 @@ use Rattle.intake.proofs.test_description.Lts as lts
 use Rattle.intake.proofs.read_directory.Reads as read-directory-reads
 use Rattle.intake.proofs.test_parts.Reads as test-parts-reads
 
--- src/lib.rt:346:9
 read-directory-requires : tie.Need-read-directory-requires
 read-directory-requires c κs = search needs
 
--- src/lib.rt:348:26
 enum-known-directory : tie.Need-enum-known-directory
 enum-known-directory c = search needs
 
--- src/lib.rt:352:24
 sub-test-parts : tie.Need-sub-test-parts
 sub-test-parts c = let l = directory-inside (c .before .before .before .before .before .args .d .now) (c .before .directory .given .0 .0) (sym (c .before .directory .given .1) ∙ c .before .before .before .read-directory .ensures) in omega arith
 
--- src/lib.rt:352:24
 part-test-parts-start : tie.Need-part-test-parts-start
 part-test-parts-start c = let l = directory-inside (c .before .before .before .before .before .args .d .now) (c .before .directory .given .0 .0) (sym (c .before .directory .given .1) ∙ c .before .before .before .read-directory .ensures) in omega arith
 
--- src/lib.rt:352:24
 part-test-parts-end : tie.Need-part-test-parts-end
 part-test-parts-end c = let l = directory-inside (c .before .before .before .before .before .args .d .now) (c .before .directory .given .0 .0) (sym (c .before .directory .given .1) ∙ c .before .before .before .read-directory .ensures) in omega arith
 
--- src/lib.rt:352:42
 sub-test-parts-2 : tie.Need-sub-test-parts-2
 sub-test-parts-2 c = let l = directory-inside (c .before .before .before .before .before .before .args .d .now) (c .before .before .directory .given .0 .0) (sym (c .before .before .directory .given .1) ∙ c .before .before .before .before .read-directory .ensures) in omega arith
 
--- src/lib.rt:352:42
 part-test-parts-start-2 : tie.Need-part-test-parts-start-2
 part-test-parts-start-2 c = let l = directory-inside (c .before .before .before .before .before .before .args .d .now) (c .before .before .directory .given .0 .0) (sym (c .before .before .directory .given .1) ∙ c .before .before .before .before .read-directory .ensures) in omega arith
 
--- src/lib.rt:352:42
 part-test-parts-end-2 : tie.Need-part-test-parts-end-2
 part-test-parts-end-2 c = let l = directory-inside (c .before .before .before .before .before .before .args .d .now) (c .before .before .directory .given .0 .0) (sym (c .before .before .directory .given .1) ∙ c .before .before .before .before .read-directory .ensures) in omega arith
 
--- src/lib.rt:352:63
 sub-test-parts-3 : tie.Need-sub-test-parts-3
 sub-test-parts-3 c = let l = directory-inside (c .before .before .before .before .before .before .before .args .d .now) (c .before .before .before .directory .given .0 .0) (sym (c .before .before .before .directory .given .1) ∙ c .before .before .before .before .before .read-directory .ensures) in omega arith
 
--- src/lib.rt:352:63
 part-test-parts-start-3 : tie.Need-part-test-parts-start-3
 part-test-parts-start-3 c = let l = directory-inside (c .before .before .before .before .before .before .before .args .d .now) (c .before .before .before .directory .given .0 .0) (sym (c .before .before .before .directory .given .1) ∙ c .before .before .before .before .before .read-directory .ensures) in omega arith
 
--- src/lib.rt:352:63
 part-test-parts-end-3 : tie.Need-part-test-parts-end-3
 part-test-parts-end-3 c = let l = directory-inside (c .before .before .before .before .before .before .before .args .d .now) (c .before .before .before .directory .given .0 .0) (sym (c .before .before .before .directory .given .1) ∙ c .before .before .before .before .before .read-directory .ensures) in omega arith
 
--- src/lib.rt:352:13
 test-parts-requires : tie.Need-test-parts-requires
 test-parts-requires c κs = search needs
 
--- src/lib.rt:354:27
 enum-told : tie.Need-enum-told
 enum-told c = search needs
 
--- src/lib.rt:343:1
 returns : tie.Need-returns
 returns c = c .test-parts .ensures ∙ parts-on (c .before .before .before .before .before .before .before .before .before .args .d .now) (c .before .before .before .before .before .directory .given .0 .0) (sym (c .before .before .before .before .before .directory .given .1) ∙ c .before .before .before .before .before .before .before .read-directory .ensures)
 
--- src/lib.rt:343:1
 returns-2 : tie.Need-returns-2
 returns-2 c = stops-1 (c .before .before .before .before .args .d .now) (sym (c .enum-told .given .1) ∙ c .before .before .read-directory .ensures)
 

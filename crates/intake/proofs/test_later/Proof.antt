@@ -11,43 +11,33 @@ use Rattle.intake.proofs.everys_ok.Reads as everys-ok-reads
 use Rattle.intake.proofs.query_ok.Reads as query-ok-reads
 use Rattle.intake.proofs.simples_ok.Reads as simples-ok-reads
 
--- src/lib.rt:303:9
 simples-ok-requires : tie.Need-simples-ok-requires
 simples-ok-requires c κs = search needs
 
--- src/lib.rt:304:9
 returns : tie.Need-returns
 returns c = stops-5 (c .before .before .before .before .before .args .rs .now) (c .before .before .before .before .before .args .cs .now) (c .before .before .before .before .before .args .qs .now) (c .before .before .before .before .before .args .a) (c .before .before .before .before .before .args .complex) (sym (c .before .simples-ok .ensures) ∙ not-true _ (c .if1 .taken))
 
--- src/lib.rt:306:9
 distincts-ok-requires : tie.Need-distincts-ok-requires
 distincts-ok-requires c κs = search needs
 
--- src/lib.rt:307:9
 returns-2 : tie.Need-returns-2
 returns-2 c = stops-6 (c .before .before .before .before .before .before .before .args .rs .now) (c .before .before .before .before .before .before .before .args .cs .now) (c .before .before .before .before .before .before .before .args .qs .now) (c .before .before .before .before .before .before .before .args .a) (c .before .before .before .before .before .before .before .args .complex) (sym (c .before .before .before .simples-ok .ensures) ∙ not-false _ (c .before .before .if1 .left)) (sym (c .before .distincts-ok .ensures) ∙ not-true _ (c .if2 .taken))
 
--- src/lib.rt:309:9
 everys-ok-requires : tie.Need-everys-ok-requires
 everys-ok-requires c κs = search needs
 
--- src/lib.rt:310:9
 returns-3 : tie.Need-returns-3
 returns-3 c = stops-7 (c .before .before .before .before .before .before .before .before .before .args .rs .now) (c .before .before .before .before .before .before .before .before .before .args .cs .now) (c .before .before .before .before .before .before .before .before .before .args .qs .now) (c .before .before .before .before .before .before .before .before .before .args .a) (c .before .before .before .before .before .before .before .before .before .args .complex) (sym (c .before .before .before .before .before .simples-ok .ensures) ∙ not-false _ (c .before .before .before .before .if1 .left)) (sym (c .before .before .before .distincts-ok .ensures) ∙ not-false _ (c .before .before .if2 .left)) (sym (c .before .everys-ok .ensures) ∙ not-true _ (c .if3 .taken))
 
--- src/lib.rt:312:22
 mul-query-ok : tie.Need-mul-query-ok
 mul-query-ok c = search needs
 
--- src/lib.rt:312:9
 query-ok-requires : tie.Need-query-ok-requires
 query-ok-requires c κs = search needs
 
--- src/lib.rt:313:9
 returns-4 : tie.Need-returns-4
 returns-4 c = stops-8 (c .before .before .before .before .before .before .before .before .before .before .before .args .rs .now) (c .before .before .before .before .before .before .before .before .before .before .before .args .cs .now) (c .before .before .before .before .before .before .before .before .before .before .before .args .qs .now) (c .before .before .before .before .before .before .before .before .before .before .before .args .a) (c .before .before .before .before .before .before .before .before .before .before .before .args .complex) (sym (c .before .before .before .before .before .before .before .simples-ok .ensures) ∙ not-false _ (c .before .before .before .before .before .before .if1 .left)) (sym (c .before .before .before .before .before .distincts-ok .ensures) ∙ not-false _ (c .before .before .before .before .if2 .left)) (sym (c .before .before .before .everys-ok .ensures) ∙ not-false _ (c .before .before .if3 .left)) (sym (c .before .query-ok .ensures) ∙ not-true _ (c .if4 .taken))
 
--- src/lib.rt:299:1
 returns-5 : tie.Need-returns-5
 returns-5 c = stops-nowhere (c .before .before .before .before .before .before .before .before .before .before .before .args .rs .now) (c .before .before .before .before .before .before .before .before .before .before .before .args .cs .now) (c .before .before .before .before .before .before .before .before .before .before .before .args .qs .now) (c .before .before .before .before .before .before .before .before .before .before .before .args .a) (c .before .before .before .before .before .before .before .before .before .before .before .args .complex) (sym (c .before .before .before .before .before .before .before .simples-ok .ensures) ∙ not-false _ (c .before .before .before .before .before .before .if1 .left)) (sym (c .before .before .before .before .before .distincts-ok .ensures) ∙ not-false _ (c .before .before .before .before .if2 .left)) (sym (c .before .before .before .everys-ok .ensures) ∙ not-false _ (c .before .before .if3 .left)) (sym (c .before .query-ok .ensures) ∙ not-false _ (c .if4 .left))
 

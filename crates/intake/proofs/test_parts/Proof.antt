@@ -11,19 +11,15 @@ use Rattle.intake.proofs.test_steps.Reads as test-steps-reads
 use Rattle.roles.proofs.ancestors.Reads as ancestors-reads
 use Rattle.roles.proofs.complex_roles.Reads as complex-roles-reads
 
--- src/lib.rt:338:9
 ancestors-requires : tie.Need-ancestors-requires
 ancestors-requires c κs = search needs
 
--- src/lib.rt:339:31
 complex-roles-requires : tie.Need-complex-roles-requires
 complex-roles-requires c κs = search needs
 
--- src/lib.rt:339:5
 test-steps-requires : tie.Need-test-steps-requires
 test-steps-requires c κs = search needs
 
--- src/lib.rt:335:1
 returns : tie.Need-returns
 returns c = c .test-steps .ensures ∙ ap wholly (steps-are (c .before .before .before .before .before .before .args .rs .now) (c .before .before .before .before .before .before .args .cs .now) (c .before .before .before .before .before .before .args .qs .now) (c .before .before .ancestors .result) (c .before .complex-roles .result) (c .before .before .ancestors .ensures) (λ few. c .before .complex-roles .ensures ∙ not-simple (c .before .before .before .before .before .before .args .rs .now) (c .before .before .ancestors .result) (c .before .before .before .before .before .before .args .cs .now) (c .before .before .before .before .before .before .args .qs .now) (c .before .before .ancestors .ensures) few))
 

@@ -12,35 +12,27 @@ use Rattle.intake.proofs.roles_ok.Reads as roles-ok-reads
 use Rattle.intake.proofs.sizes_ok.Reads as sizes-ok-reads
 use Rattle.intake.proofs.test_later.Reads as test-later-reads
 
--- src/lib.rt:322:9
 sizes-ok-requires : tie.Need-sizes-ok-requires
 sizes-ok-requires c κs = search needs
 
--- src/lib.rt:323:9
 returns : tie.Need-returns
 returns c = stops-2 (c .before .before .before .before .before .args .rs .now) (c .before .before .before .before .before .args .cs .now) (c .before .before .before .before .before .args .qs .now) (c .before .before .before .before .before .args .a) (c .before .before .before .before .before .args .complex) (sym (c .before .sizes-ok .ensures) ∙ not-true _ (c .if1 .taken))
 
--- src/lib.rt:325:9
 roles-ok-requires : tie.Need-roles-ok-requires
 roles-ok-requires c κs = sizes-few (c .before .before .before .before .before .args .rs .now) (c .before .before .before .before .before .args .cs .now) (c .before .before .before .before .before .args .qs .now) (sym (c .before .sizes-ok .ensures) ∙ not-false _ (c .if1 .left)) .0
 
--- src/lib.rt:326:9
 returns-2 : tie.Need-returns-2
 returns-2 c = stops-3 (c .before .before .before .before .before .before .before .args .rs .now) (c .before .before .before .before .before .before .before .args .cs .now) (c .before .before .before .before .before .before .before .args .qs .now) (c .before .before .before .before .before .before .before .args .a) (c .before .before .before .before .before .before .before .args .complex) (sym (c .before .before .before .sizes-ok .ensures) ∙ not-false _ (c .before .before .if1 .left)) (sym (c .before .roles-ok .ensures) ∙ not-true _ (c .if2 .taken))
 
--- src/lib.rt:328:9
 entries-ok-requires : tie.Need-entries-ok-requires
 entries-ok-requires c κs = sizes-few (c .before .before .before .before .before .before .before .args .rs .now) (c .before .before .before .before .before .before .before .args .cs .now) (c .before .before .before .before .before .before .before .args .qs .now) (sym (c .before .before .before .sizes-ok .ensures) ∙ not-false _ (c .before .before .if1 .left)) .2
 
--- src/lib.rt:329:9
 returns-3 : tie.Need-returns-3
 returns-3 c = stops-4 (c .before .before .before .before .before .before .before .before .before .args .rs .now) (c .before .before .before .before .before .before .before .before .before .args .cs .now) (c .before .before .before .before .before .before .before .before .before .args .qs .now) (c .before .before .before .before .before .before .before .before .before .args .a) (c .before .before .before .before .before .before .before .before .before .args .complex) (sym (c .before .before .before .before .before .sizes-ok .ensures) ∙ not-false _ (c .before .before .before .before .if1 .left)) (sym (c .before .before .before .roles-ok .ensures) ∙ not-false _ (c .before .before .if2 .left)) (sym (c .before .entries-ok .ensures) ∙ not-true _ (c .if3 .taken))
 
--- src/lib.rt:331:5
 test-later-requires : tie.Need-test-later-requires
 test-later-requires c κs = let w = sizes-few (c .before .before .before .before .before .before .before .before .before .args .rs .now) (c .before .before .before .before .before .before .before .before .before .args .cs .now) (c .before .before .before .before .before .before .before .before .before .args .qs .now) (sym (c .before .before .before .before .before .sizes-ok .ensures) ∙ not-false _ (c .before .before .before .before .if1 .left)) in (w .0, w .2)
 
--- src/lib.rt:319:1
 returns-4 : tie.Need-returns-4
 returns-4 c = c .test-later .ensures ∙ goes-on (c .before .before .before .before .before .before .before .before .before .before .args .rs .now) (c .before .before .before .before .before .before .before .before .before .before .args .cs .now) (c .before .before .before .before .before .before .before .before .before .before .args .qs .now) (c .before .before .before .before .before .before .before .before .before .before .args .a) (c .before .before .before .before .before .before .before .before .before .before .args .complex) (sym (c .before .before .before .before .before .before .sizes-ok .ensures) ∙ not-false _ (c .before .before .before .before .before .if1 .left)) (sym (c .before .before .before .before .roles-ok .ensures) ∙ not-false _ (c .before .before .before .if2 .left)) (sym (c .before .before .entries-ok .ensures) ∙ not-false _ (c .before .if3 .left))
 

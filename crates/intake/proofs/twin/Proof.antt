@@ -6,15 +6,12 @@ use Rattle.intake.proofs.twin.Reads as reads
 use Rattle.intake.proofs.twin.Lts as lts
 use Rattle.tables.proofs.fields_at.Reads as fields-at-reads
 
--- src/lib.rt:135:9
 fields-at-requires : tie.Need-fields-at-requires
 fields-at-requires c κs = search needs
 
--- src/lib.rt:136:9
 fields-at-requires-2 : tie.Need-fields-at-requires-2
 fields-at-requires-2 c κs = search needs
 
--- src/lib.rt:132:1
 returns : tie.Need-returns
 returns c = twin-read (c .before .before .before .before .before .before .before .before .before .before .before .before .before .before .args .cs .now) _ _ _ _ (c .before .before .before .before .before .before .before .before .before .before .before .before .fields-at .ensures .0) (c .before .before .before .before .before .before .before .before .before .before .before .fields-at2 .ensures .0)
 

@@ -6,15 +6,12 @@ use Rattle.parts.proofs.byte.Tie as tie
 use Rattle.parts.proofs.byte.Reads as reads
 use Rattle.parts.proofs.byte.Lts as lts
 
--- src/lib.rt:17:23
 shared-slice-read-result : tie.Need-shared-slice-read-result
 shared-slice-read-result c = search needs
 
--- src/lib.rt:14:1
 returns : tie.Need-returns
 returns c = search needs
 
--- src/lib.rt:14:1
 returns-2 : tie.Need-returns-2
 returns-2 c = sym (List·getD-eq-default (c .before .args .s .now) 0 (c .if1 .left))
 

@@ -17,67 +17,51 @@ Inv-loop s at count first start n next₀ i₀ next i =
 abbrev μ-loop : tie.MeasureT-loop
 μ-loop s at count first start n next₀ i₀ next i = n - i
 
--- src/lib.rt:37:26
 mul-if1 : tie.Need-mul-if1 Inv-loop μ-loop
 mul-if1 c = omega arith
 
--- src/lib.rt:37:18
 add-if1 : tie.Need-add-if1 Inv-loop μ-loop
 add-if1 c = omega arith
 
--- src/lib.rt:38:9
 returns : tie.Need-returns Inv-loop μ-loop
 returns c = sym (fills-short _ _ _ _ (c .if1 .taken))
 
--- src/lib.rt:42:5
 loop-holds : tie.Need-loop-holds Inv-loop μ-loop
 loop-holds c = (omega arith, omega arith, omega arith, fills-start _ _ _ _ (omega arith))
 
--- src/lib.rt:43:29
 mul-read2 : tie.Need-mul-read2 Inv-loop μ-loop
 mul-read2 c = omega arith
 
--- src/lib.rt:43:21
 add-read2 : tie.Need-add-read2 Inv-loop μ-loop
 add-read2 c = omega arith
 
--- src/lib.rt:43:12
 read2-requires : tie.Need-read2-requires Inv-loop μ-loop
 read2-requires c κs = search needs
 
--- src/lib.rt:44:13
 returns-2 : tie.Need-returns-2 Inv-loop μ-loop
 returns-2 c = sym (fills-stop _ _ _ _ _ (omega arith) (λ e. omega arith)) ∙ c .before .before .before .loop .inv .3
 
--- src/lib.rt:46:34
 mul-read2-2 : tie.Need-mul-read2-2 Inv-loop μ-loop
 mul-read2-2 c = omega arith
 
--- src/lib.rt:46:26
 add-read2-2 : tie.Need-add-read2-2 Inv-loop μ-loop
 add-read2-2 c = omega arith
 
--- src/lib.rt:46:26
 add-read2-3 : tie.Need-add-read2-3 Inv-loop μ-loop
 add-read2-3 c = omega arith
 
--- src/lib.rt:46:17
 read2-requires-2 : tie.Need-read2-requires-2 Inv-loop μ-loop
 read2-requires-2 c κs = search needs
 
--- src/lib.rt:46:9
 add-next : tie.Need-add-next Inv-loop μ-loop
 add-next c = omega arith
 
--- src/lib.rt:47:9
 add-i : tie.Need-add-i Inv-loop μ-loop
 add-i c = omega arith
 
--- src/lib.rt:42:5
 loop-less : tie.Need-loop-less Inv-loop μ-loop
 loop-less c = omega arith
 
--- src/lib.rt:42:5
 loop-again : tie.Need-loop-again Inv-loop μ-loop
 loop-again c = (
   omega arith,
@@ -86,7 +70,6 @@ loop-again c = (
   sym (fills-on _ _ _ _ _ _ (omega arith) (omega arith) (c .read22 .ensures .0)) ∙ c .before .before .before .before .loop .inv .3,
 )
 
--- src/lib.rt:32:1
 returns-3 : tie.Need-returns-3 Inv-loop μ-loop
 returns-3 c = sym (fills-end _ _ _ _ _ (omega arith)) ∙ c .before .loop .inv .3
 

@@ -17,35 +17,27 @@ Inv-loop rs n a₀ k₀ a k = (k ≤ n) × (n ≤ 16) × ((m : ℕ) → m < 16 �
 abbrev μ-loop : tie.MeasureT-loop
 μ-loop rs n a₀ k₀ a k = n - k
 
--- src/lib.rt:84:9
 role-count-requires : tie.Need-role-count-requires Inv-loop μ-loop
 role-count-requires c κs = tt
 
--- src/lib.rt:85:9
 start-requires : tie.Need-start-requires Inv-loop μ-loop
 start-requires c κs = tt
 
--- src/lib.rt:87:5
 loop-holds : tie.Need-loop-holds Inv-loop μ-loop
 loop-holds c = (omega arith, c .before .role-count .ensures .1, c .start .ensures)
 
--- src/lib.rt:88:13
 pass-requires : tie.Need-pass-requires Inv-loop μ-loop
 pass-requires c κs = let v = c .before .loop .inv in omega arith
 
--- src/lib.rt:90:9
 add-k : tie.Need-add-k Inv-loop μ-loop
 add-k c = omega arith
 
--- src/lib.rt:87:5
 loop-less : tie.Need-loop-less Inv-loop μ-loop
 loop-less c = omega arith
 
--- src/lib.rt:87:5
 loop-again : tie.Need-loop-again Inv-loop μ-loop
 loop-again c = let v = c .before .before .loop .inv in (omega arith, v .1, λ m h. c .pass .ensures m h ∙ pass-on (c .before .before .before .before .before .before .args .rs .now) (c .before .before .loop .k) m _ _ (omega arith) (v .2 m h) (v .2 (c .before .before .loop .k) (omega arith)))
 
--- src/lib.rt:81:1
 returns : tie.Need-returns Inv-loop μ-loop
 returns c = λ i h. c .before .loop .inv .2 i h ∙ ap (λ k. passed (c .before .before .before .before .before .args .rs .now) k i) (omega (arith, c .before .before .before .role-count .ensures .0))
 

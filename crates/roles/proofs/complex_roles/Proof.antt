@@ -17,47 +17,36 @@ Inv-loop rs a n out₀ t₀ out t =
 abbrev μ-loop : tie.MeasureT-loop
 μ-loop rs a n out₀ t₀ out t = n - t
 
--- src/lib.rt:99:13
 role-count-requires : tie.Need-role-count-requires Inv-loop μ-loop
 role-count-requires c κs = tt
 
--- src/lib.rt:99:13
 cast-n : tie.Need-cast-n Inv-loop μ-loop
 cast-n c = omega arith
 
--- src/lib.rt:102:5
 loop-holds : tie.Need-loop-holds Inv-loop μ-loop
 loop-holds c = (omega arith, c .role-count .ensures .1, above-none (c .before .before .args .rs .now) (c .before .before .args .t2))
 
--- src/lib.rt:103:35
 mul-with-ancestors : tie.Need-mul-with-ancestors Inv-loop μ-loop
 mul-with-ancestors c = omega arith
 
--- src/lib.rt:103:35
 array-read-with-ancestors : tie.Need-array-read-with-ancestors Inv-loop μ-loop
 array-read-with-ancestors c = omega arith
 
--- src/lib.rt:103:50
 mul-byte : tie.Need-mul-byte Inv-loop μ-loop
 mul-byte c = omega arith
 
--- src/lib.rt:103:41
 byte-requires : tie.Need-byte-requires Inv-loop μ-loop
 byte-requires c κs = tt
 
--- src/lib.rt:103:9
 with-ancestors-requires : tie.Need-with-ancestors-requires Inv-loop μ-loop
 with-ancestors-requires c κs = tt
 
--- src/lib.rt:104:9
 add-t : tie.Need-add-t Inv-loop μ-loop
 add-t c = omega arith
 
--- src/lib.rt:102:5
 loop-less : tie.Need-loop-less Inv-loop μ-loop
 loop-less c = omega arith
 
--- src/lib.rt:102:5
 loop-again : tie.Need-loop-again Inv-loop μ-loop
 loop-again c = let v = c .before .before .before .loop .inv in (
   omega arith,
@@ -66,7 +55,6 @@ loop-again c = let v = c .before .before .before .loop .inv in (
       (c .with-ancestors .ensures .1) (c .before .byte .ensures) (c .with-ancestors .ensures .0),
 )
 
--- src/lib.rt:96:1
 returns : tie.Need-returns Inv-loop μ-loop
 returns c = c .before .loop .inv .2
     ∙ ap (aboveTransitive (c .before .before .before .before .args .rs .now) (c .before .before .before .before .args .t2)) (omega (arith, c .before .before .role-count .ensures .0))

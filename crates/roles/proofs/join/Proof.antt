@@ -6,15 +6,12 @@ use Rattle.roles.proofs.join.Reads as reads
 use Rattle.roles.proofs.join.Lts as lts
 use Rattle.roles.proofs.has16.Reads as has16-reads
 
--- src/lib.rt:30:8
 has16-requires : tie.Need-has16-requires
 has16-requires c κs = search needs
 
--- src/lib.rt:27:1
 returns : tie.Need-returns
 returns c = rw (sym (c .before .has16 .ensures) ∙ c .if1 .taken) refl
 
--- src/lib.rt:27:1
 returns-2 : tie.Need-returns-2
 returns-2 c = rw (sym (c .before .has16 .ensures) ∙ c .if1 .left) refl
 

@@ -6,27 +6,21 @@ use Rattle.roles.proofs.own_mask.Reads as reads
 use Rattle.roles.proofs.own_mask.Lts as lts
 use Rattle.parts.proofs.mask2.Reads as mask2-reads
 
--- src/lib.rt:24:15
 mul-mask2 : tie.Need-mul-mask2
 mul-mask2 c = search needs
 
--- src/lib.rt:24:15
 add-mask2 : tie.Need-add-mask2
 add-mask2 c = search needs
 
--- src/lib.rt:24:5
 mask2-requires : tie.Need-mask2-requires
 mask2-requires c κs = search needs
 
--- src/lib.rt:24:34
 cast-result : tie.Need-cast-result
 cast-result c = search needs
 
--- src/lib.rt:24:29
 shl-result : tie.Need-shl-result
 shl-result c = search needs
 
--- src/lib.rt:20:1
 returns : tie.Need-returns
 returns c = own-is (c .before .before .args .rs .now) _ _ (search needs) (search needs) (c .mask2 .ensures)
 

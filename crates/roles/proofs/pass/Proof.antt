@@ -16,51 +16,39 @@ Inv-loop k a row out₀ i₀ out i = (i ≤ 16) × Filled 16 (λ m. joined (getD
 abbrev μ-loop : tie.MeasureT-loop
 μ-loop k a row out₀ i₀ out i = 16 - i
 
--- src/lib.rt:51:15
 mul-row : tie.Need-mul-row Inv-loop μ-loop
 mul-row c = omega arith
 
--- src/lib.rt:51:15
 array-read-row : tie.Need-array-read-row Inv-loop μ-loop
 array-read-row c = omega arith
 
--- src/lib.rt:54:5
 loop-holds : tie.Need-loop-holds Inv-loop μ-loop
 loop-holds c = (omega arith, filled-none _ _ _ (search needs))
 
--- src/lib.rt:55:23
 mul-join : tie.Need-mul-join Inv-loop μ-loop
 mul-join c = omega arith
 
--- src/lib.rt:55:23
 array-read-join : tie.Need-array-read-join Inv-loop μ-loop
 array-read-join c = omega arith
 
--- src/lib.rt:55:18
 join-requires : tie.Need-join-requires Inv-loop μ-loop
 join-requires c κs = omega arith
 
--- src/lib.rt:55:9
 mul-out : tie.Need-mul-out Inv-loop μ-loop
 mul-out c = omega arith
 
--- src/lib.rt:55:9
 array-write-out : tie.Need-array-write-out Inv-loop μ-loop
 array-write-out c = omega arith
 
--- src/lib.rt:56:9
 add-i : tie.Need-add-i Inv-loop μ-loop
 add-i c = omega arith
 
--- src/lib.rt:54:5
 loop-less : tie.Need-loop-less Inv-loop μ-loop
 loop-less c = omega arith
 
--- src/lib.rt:54:5
 loop-again : tie.Need-loop-again Inv-loop μ-loop
 loop-again c = (omega arith, filled-more _ (omega arith) (c .join .ensures) (c .before .before .loop .inv .1))
 
--- src/lib.rt:47:1
 returns : tie.Need-returns Inv-loop μ-loop
 returns c = λ m h. c .before .loop .inv .1 .at m (omega arith)
 

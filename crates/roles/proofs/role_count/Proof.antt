@@ -6,15 +6,12 @@ use Rattle.roles.proofs.role_count.Tie as tie
 use Rattle.roles.proofs.role_count.Reads as reads
 use Rattle.roles.proofs.role_count.Lts as lts
 
--- src/lib.rt:68:17
 cast-result : tie.Need-cast-result
 cast-result c = search needs
 
--- src/lib.rt:64:1
 returns : tie.Need-returns
 returns c = (few-roles (c .before .args .rs .now) (c .if1 .taken), omega arith)
 
--- src/lib.rt:64:1
 returns-2 : tie.Need-returns-2
 returns-2 c = (many-roles (c .before .args .rs .now) (omega arith), omega arith)
 

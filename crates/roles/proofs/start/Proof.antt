@@ -15,35 +15,27 @@ Inv-loop rs out₀ i₀ out i = (i ≤ 16) × Filled 16 (passed rs 0) i out
 abbrev μ-loop : tie.MeasureT-loop
 μ-loop rs out₀ i₀ out i = 16 - i
 
--- src/lib.rt:39:5
 loop-holds : tie.Need-loop-holds Inv-loop μ-loop
 loop-holds c = (omega arith, filled-none _ _ _ refl)
 
--- src/lib.rt:40:18
 own-mask-requires : tie.Need-own-mask-requires Inv-loop μ-loop
 own-mask-requires c κs = omega arith
 
--- src/lib.rt:40:9
 mul-out : tie.Need-mul-out Inv-loop μ-loop
 mul-out c = omega arith
 
--- src/lib.rt:40:9
 array-write-out : tie.Need-array-write-out Inv-loop μ-loop
 array-write-out c = omega arith
 
--- src/lib.rt:41:9
 add-i : tie.Need-add-i Inv-loop μ-loop
 add-i c = omega arith
 
--- src/lib.rt:39:5
 loop-less : tie.Need-loop-less Inv-loop μ-loop
 loop-less c = omega arith
 
--- src/lib.rt:39:5
 loop-again : tie.Need-loop-again Inv-loop μ-loop
 loop-again c = (omega arith, filled-more _ (omega arith) (c .own-mask .ensures) (c .before .before .loop .inv .1))
 
--- src/lib.rt:34:1
 returns : tie.Need-returns Inv-loop μ-loop
 returns c = λ m h. c .before .loop .inv .1 .at m (omega arith)
 

@@ -6,11 +6,9 @@ use Rattle.roles.proofs.with_ancestors.Tie as tie
 use Rattle.roles.proofs.with_ancestors.Reads as reads
 use Rattle.roles.proofs.with_ancestors.Lts as lts
 
--- src/lib.rt:74:1
 returns : tie.Need-returns
 returns c = (rw (eq-eqb _ _ (c .if1 .taken)) refl, omega arith)
 
--- src/lib.rt:74:1
 returns-2 : tie.Need-returns-2
 returns-2 c = (rw (ne-eqb _ _ (c .if1 .left)) refl, omega arith)
 

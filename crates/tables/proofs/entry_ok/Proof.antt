@@ -9,15 +9,12 @@ use Rattle.tables.proofs.entry_ok.Lts as lts
 use Rattle.tables.proofs.fields_at.Reads as fields-at-reads
 use Rattle.tables.proofs.fields_ok.Reads as fields-ok-reads
 
--- src/lib.rt:106:15
 fields-at-requires : tie.Need-fields-at-requires
 fields-at-requires c κs = search needs
 
--- src/lib.rt:106:5
 fields-ok-requires : tie.Need-fields-ok-requires
 fields-ok-requires c κs = search needs
 
--- src/lib.rt:103:1
 returns : tie.Need-returns
 returns c = c .fields-ok .ensures ∙ ap (λ F. fieldsTest (c .before .before .before .args .roles) (c .before .before .before .args .e .0) (fieldsIn F)) (c .before .fields-at .ensures .0)
 

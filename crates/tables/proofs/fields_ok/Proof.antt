@@ -10,60 +10,47 @@ use Rattle.tables.proofs.both_ok.Reads as both-ok-reads
 use Rattle.tables.proofs.every_ok.Reads as every-ok-reads
 use Rattle.tables.proofs.unused.Reads as unused-reads
 
--- src/lib.rt:91:22
 cast-limit : tie.Need-cast-limit
 cast-limit c = search needs
 
--- src/lib.rt:91:17
 mul-limit : tie.Need-mul-limit
 mul-limit c = search needs
 
--- src/lib.rt:93:26
 unused-requires : tie.Need-unused-requires
 unused-requires c κs = search needs
 
--- src/lib.rt:94:25
 unused-requires-2 : tie.Need-unused-requires-2
 unused-requires-2 c κs = search needs
 
--- src/lib.rt:95:14
 both-ok-requires : tie.Need-both-ok-requires
 both-ok-requires c κs = search needs
 
--- src/lib.rt:96:14
 every-ok-requires : tie.Need-every-ok-requires
 every-ok-requires c κs = search needs
 
--- src/lib.rt:97:14
 at-least-ok-requires : tie.Need-at-least-ok-requires
 at-least-ok-requires c κs = search needs
 
--- src/lib.rt:86:1
 returns : tie.Need-returns
 unfolding fieldTest
 returns c = rw (c .unused .ensures, c .before .match .keys1) refl
 
--- src/lib.rt:86:1
 returns-2 : tie.Need-returns-2
 unfolding fieldTest
 returns-2 c = rw (c .unused2 .ensures, c .before .match .keys2) refl
 
--- src/lib.rt:86:1
 returns-3 : tie.Need-returns-3
 unfolding fieldTest
 returns-3 c = rw (c .both-ok .ensures, c .before .match .keys3) refl
 
--- src/lib.rt:86:1
 returns-4 : tie.Need-returns-4
 unfolding fieldTest
 returns-4 c = rw (c .every-ok .ensures, c .before .match .keys4) refl
 
--- src/lib.rt:86:1
 returns-5 : tie.Need-returns-5
 unfolding fieldTest
 returns-5 c = rw (c .at-least-ok .ensures, c .before .match .keys5) refl
 
--- src/lib.rt:86:1
 returns-6 : tie.Need-returns-6
 returns-6 c = let r = c .match .rest in sym (unknown-kind _ _ _ _ _ _ _ (r .0 .0 .0 .0 .1) (r .0 .0 .0 .1) (r .0 .0 .1) (r .0 .1) (r .1))
 
