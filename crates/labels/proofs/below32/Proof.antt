@@ -1,0 +1,19 @@
+use Rattle.logic.specs.SetLaws.{narrow-word}
+use Rattle.labels.specs.Blocks.{narrow-whole}
+use borrow.Author.Needs.{needs}
+use Rattle.labels.proofs.below32.Statement.{statement}
+use Rattle.labels.proofs.below32.Tie as tie
+use Rattle.labels.proofs.below32.Reads as reads
+use Rattle.labels.proofs.below32.Lts as lts
+
+shl-result : tie.Need-shl-result
+shl-result c = search needs
+
+returns : tie.Need-returns
+returns c = narrow-word 32 _ _ (c .if1 .taken)
+
+returns-2 : tie.Need-returns-2
+returns-2 c = narrow-whole 32 _ _ (search needs) (c .if1 .left)
+
+pub below32-spec : {M : Type 1} → statement M
+below32-spec = tie.close (tie.spec shl-result returns returns-2)

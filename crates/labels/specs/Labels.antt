@@ -1,0 +1,27 @@
+-- Labels as the code holds them: two words of 32 bits that are one number (FORMAT 4).
+use Prim.Native.Nat.{ℕ, _+_, _≤_}
+use mathlib.Core.Path.{_≡_, refl}
+use mathlib.Core.List.{List}
+use native.Mathlib.Omega.{arith}
+use lib.ListN.{length}
+use Rattle.parts.specs.Numbers.{num2, past}
+use Rattle.labels.specs.Blocks.{block}
+use Rattle.labels.specs.declared.Label.{Label}
+
+-- the four-byte number at a place, and the label at a place: eight bytes, high byte first
+abbrev pub num4 : List ℕ → ℕ → ℕ
+num4 s at = block 16 (num2 s at) (num2 s (at + 2))
+
+abbrev pub labelIn : List ℕ → ℕ → ℕ
+labelIn s at = block 32 (num4 s at) (num4 s (at + 4))
+
+-- the set that the two words are
+abbrev pub valueOf : Label → ℕ
+valueOf x = block 32 (x .high) (x .low)
+
+-- past the end they are 0
+pub past4 : (s : List ℕ) (at : ℕ) → length s ≤ at → 0 ≡ num4 s at
+past4 s at h = rw (← past s at h, ← past s (at + 2) (omega arith)) refl
+
+pub past8 : (s : List ℕ) (at : ℕ) → length s ≤ at → 0 ≡ labelIn s at
+past8 s at h = rw (← past4 s at h, ← past4 s (at + 4) (omega arith)) refl

@@ -1,0 +1,80 @@
+// Labels: sets of literals, read in place and held in two words.
+ghost use mathlib.Core.Path.{_≡_};
+ghost use Prim.Native.Nat.{_<_};
+ghost use Rattle.logic.specs.Sets.{has, narrow, within};
+ghost use Rattle.labels.specs.Labels.{num4, labelIn, valueOf};
+use parts::mask2;
+
+pub struct Label {
+    pub high: u32,
+    pub low: u32,
+}
+
+// The four bytes at `at` as a word, high byte first; bytes past the end count as 0.
+fn word(s: &[u8], at: usize) -> u32
+    ensures { λ r. ⌜ r ≡ num4 (now (s .entry)) at ⌝ }
+{
+    if at < s.len() {
+        (mask2(s, at) as u32) * 65536 + (mask2(s, at + 2) as u32)
+    } else {
+        0
+    }
+}
+
+// The label at `at`.
+pub fn load(s: &[u8], at: usize) -> Label
+    ensures { λ r. ⌜ valueOf r ≡ labelIn (now (s .entry)) at ⌝ }
+{
+    if at < s.len() {
+        Label {
+            high: word(s, at),
+            low: word(s, at + 4),
+        }
+    } else {
+        Label { high: 0, low: 0 }
+    }
+}
+
+// Whether the word holds `i`.
+fn has32(x: u32, i: u8) -> bool
+    ensures { λ r. ⌜ r ≡ has x i ⌝ }
+{
+    (i < 32) & ((x >> (i % 32)) % 2 == 1)
+}
+
+// Whether the label holds the literal `l`.
+pub fn holds(x: Label, l: u8) -> bool
+    ensures { λ r. ⌜ r ≡ has (valueOf x) l ⌝ }
+{
+    if l < 32 {
+        has32(x.low, l)
+    } else {
+        has32(x.high, l - 32)
+    }
+}
+
+// Whether the word holds numbers below `n` alone.
+fn below32(x: u32, n: u8) -> bool
+    ensures { λ r. ⌜ r ≡ narrow x n ⌝ }
+{
+    if n < 32 { x < (1 << n) } else { true }
+}
+
+// Whether the label holds literals below `n` alone.
+pub fn below(x: Label, n: u8) -> bool
+    ensures { λ r. ⌜ r ≡ narrow (valueOf x) n ⌝ }
+{
+    if n < 32 {
+        let rest = below32(x.low, n);
+        (x.high == 0) & rest
+    } else {
+        below32(x.high, n - 32)
+    }
+}
+
+// Whether the label `x` lies within `y`.
+pub fn lies_within(x: Label, y: Label) -> bool
+    ensures { λ r. ⌜ r ≡ within (valueOf x) (valueOf y) ⌝ }
+{
+    (x.high & y.high == x.high) & (x.low & y.low == x.low)
+}
