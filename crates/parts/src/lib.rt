@@ -1,7 +1,7 @@
 // Numbers in bytes, and the pairs that say where the parts of a slice lie.
 ghost use mathlib.Core.Path.{_≡_};
-ghost use Prim.Native.Nat.{_<_};
-ghost use Rattle.parts.specs.Numbers.{byteAt, num2};
+ghost use Prim.Native.Nat.{_<_, _≤_};
+ghost use Rattle.parts.specs.Numbers.{byteAt, num2, upTo};
 ghost use Rattle.parts.specs.Pairs.{fills};
 
 // A byte as a number of 16 bits.
@@ -34,6 +34,17 @@ pub fn read2(s: &[u8], at: usize) -> usize
     ensures { λ r. ⌜ (r ≡ num2 (now (s .entry)) at) × (r < 65536) ⌝ }
 {
     mask2(s, at) as usize
+}
+
+// The number `n`, or `most` if it is more.
+pub fn up_to(most: u8, n: usize) -> u8
+    ensures { λ r. ⌜ (r ≡ upTo most n) × (r ≤ most) ⌝ }
+{
+    if n < (most as usize) {
+        (n % 256) as u8
+    } else {
+        most
+    }
 }
 
 // Whether the `count` pairs at `at` fill the slice from `first`.

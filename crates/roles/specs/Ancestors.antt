@@ -6,11 +6,9 @@ use mathlib.Core.Bool.{Bool, true, false, cond, not, _&&_, _||_, or-false, false
 use mathlib.Core.List.{List}
 use native.Mathlib.Omega.{arith}
 use lib.Bits.{bitOr}
-use native.Mathlib.Decide.{decLt}
 use native.Mathlib.Nat.{mod-eq-of-lt, one-mul}
 use native.Mathlib.Numerals.{add-one}
-use borrow.Author.Tests.{lt-ltb, le-ltb}
-use lib.Dec.{eqb, ltb}
+use lib.Dec.{eqb}
 use lib.Pow.{pow-lt}
 use lib.ListN.{length, getD}
 use Rattle.logic.specs.Tests.{So, or-l, or-r, or-cases, so-eqb, so-not, not-so, eqb↔, not-not, same-test}
@@ -18,7 +16,7 @@ use Rattle.logic.specs.Bounded.{allBelow, anyBelow, any-intro, any-elim, any-co
 use Rattle.logic.specs.Closure.{closure, closure-own}
 use Rattle.logic.specs.Sets.{has, with, setOf}
 use Rattle.logic.specs.SetLaws.{has-lt, with↔, setOf↔, setOf-cong, or-setOf, has-setOf, set-ext, no-member}
-use Rattle.parts.specs.Numbers.{byteAt, num2}
+use Rattle.parts.specs.Numbers.{byteAt, num2, upTo, up-to-all}
 use Rattle.description.specs.Descriptions.{Description, included}
 use Rattle.description.specs.Roles.{ancestor, simple}
 use Rattle.tables.specs.Tables.{describe}
@@ -34,7 +32,7 @@ complexMask D = setOf 16 (λ s. not (simple D s))
 -- ---- what the code computes, for role parts of every length
 -- the number of roles of the part rs, at most 16
 abbrev pub roleCount : List ℕ → ℕ
-roleCount rs = cond (ltb (length rs / 3) 16) (length rs / 3) 16
+roleCount rs = upTo 16 (length rs / 3)
 
 -- role i is role j or names it as a parent
 abbrev own : List ℕ → ℕ → ℕ → Bool
@@ -94,22 +92,10 @@ joined-passed rs k i h = rw (has-setOf 16 (closure k (own rs) i) k h) (go (closu
 pub pass-on : (rs : List ℕ) (k m x y : ℕ) → k < 16 → x ≡ passed rs k m → y ≡ passed rs k k → joined x y k ≡ passed rs (k + 1) m
 pass-on rs k m x y h p q = rw (p, q, add-one k) (joined-passed rs k m h)
 
-pub few-roles : (rs : List ℕ) → length rs / 3 < 16 → length rs / 3 % 256 ≡ roleCount rs
-few-roles rs h = let z : length rs / 3 < 256 = omega arith in rw (lt-ltb _ _ h) (mod-eq-of-lt z)
-
-pub many-roles : (rs : List ℕ) → 16 ≤ length rs / 3 → 16 ≡ roleCount rs
-many-roles rs h = rw (le-ltb _ _ h) refl
-
 -- of at most 16 roles, the masks are the ancestors
-role-count : (rs : List ℕ) → length rs / 3 ≤ 16 → roleCount rs ≡ length rs / 3
-role-count rs h = elim (decLt (length rs / 3) 16) [
-  | yes l ↦ rw (lt-ltb _ _ l) refl
-  | no l ↦ (let z : 16 ≤ length rs / 3 = omega arith in rw (le-ltb _ _ z) (omega arith))
-]
-
 pub ancestor-masks : (rs cs qs a : List ℕ) → AncestorsOf rs a → length rs / 3 ≤ 16 → (i : ℕ) → i < 16 → getD a i 0 ≡ ancestorMask (describe rs cs qs) i
 unfolding ancestor
-ancestor-masks rs cs qs a h few i l = h i l ∙ rw (role-count rs few) (setOf-cong 16 _ _ (λ j _. closure-own (length rs / 3) (included (describe rs cs qs)) i j))
+ancestor-masks rs cs qs a h few i l = h i l ∙ rw (up-to-all 16 (length rs / 3) few) (setOf-cong 16 _ _ (λ j _. closure-own (length rs / 3) (included (describe rs cs qs)) i j))
 
 -- ---- roles that are not simple: the ancestors of the transitive ones
 module _ (rs a : List ℕ) where
@@ -137,7 +123,7 @@ module _ (rs a : List ℕ) where
   -- of at most 16 roles, they are those that are not simple
   pub not-simple : (cs qs : List ℕ) → AncestorsOf rs a → length rs / 3 ≤ 16 → aboveTransitive rs a (roleCount rs) ≡ complexMask (describe rs cs qs)
   unfolding simple
-  not-simple cs qs anc few = rw (role-count rs few) (setOf-cong 16 _ _ (λ s l. any-cong n _ _ (λ t h. ap (λ m. D .transitive t && has m s) (ancestor-masks rs cs qs a anc few t (omega arith))
+  not-simple cs qs anc few = rw (up-to-all 16 (length rs / 3) few) (setOf-cong 16 _ _ (λ s l. any-cong n _ _ (λ t h. ap (λ m. D .transitive t && has m s) (ancestor-masks rs cs qs a anc few t (omega arith))
       ∙ ap (λ b. D .transitive t && b) (has-setOf 16 (ancestor D t) s l)) ∙ some-above s))
     where
       D : Description

@@ -9,6 +9,7 @@ ghost use Rattle.logic.specs.Sets.{has};
 ghost use Rattle.roles.specs.Ancestors.{AncestorsOf, roleCount, passed, joined, aboveTransitive};
 use parts::byte;
 use parts::mask2;
+use parts::up_to;
 
 // Whether the mask holds `i`.
 pub fn has16(x: u16, i: u8) -> bool
@@ -64,8 +65,7 @@ fn pass(a: [u16; 16], k: u8) -> [u16; 16]
 fn role_count(rs: &[u8]) -> u8
     ensures { λ r. ⌜ (r ≡ roleCount (now (rs .entry))) × (r ≤ 16) ⌝ }
 {
-    let n = rs.len() / 3;
-    if n < 16 { (n % 256) as u8 } else { 16 }
+    up_to(16, rs.len() / 3)
 }
 
 // The mask with the ancestors of a role, if its transitive byte is 1.
