@@ -1,5 +1,5 @@
 -- Worked examples: bytes of descriptions and the number of their refusal, each test on both sides.
-use Prim.Native.Nat.{ℕ, _+_, _/_, _%_}
+use Prim.Native.Nat.{ℕ, zero, suc, _+_, _/_, _%_}
 use mathlib.Core.Path.{_≡_, refl}
 use mathlib.Core.List.{List, [], _∷_, _++_, map}
 use mathlib.Core.Option.{Option, none, some}
@@ -44,6 +44,11 @@ top = entry 0 0 0 0 0
 abbrev name : List ℕ
 name = entry 1 0 0 0 0
 
+-- the same bytes n times
+times : ℕ → List ℕ → List ℕ
+times zero xs = []
+times (suc n) xs = xs ++ times n xs
+
 -- one role and those entries, or role 0 transitive below role 1; the root is literal 0
 abbrev entries : List ℕ → Option ℕ → Trial
 entries concepts = parts (role 0 0) concepts (0 ∷ [])
@@ -66,6 +71,13 @@ trials =
     ∷ parts (role 0 0) top [] (some 2)
     ∷ parts (0 ∷ 0 ∷ []) top (0 ∷ []) (some 2)
     ∷ parts (role 0 0) (0 ∷ top) (0 ∷ []) (some 2)
+    -- 2: 16 and 17 roles, 32 and 33 entries, 16 and 17 rules
+    ∷ parts (times 16 (role 0 0)) top (0 ∷ []) none
+    ∷ parts (times 17 (role 0 0)) top (0 ∷ []) (some 2)
+    ∷ parts (role 0 0) (top ++ times 31 name) (0 ∷ []) none
+    ∷ parts (role 0 0) (top ++ times 32 name) (0 ∷ []) (some 2)
+    ∷ parts (role 0 0) top (times 17 (0 ∷ [])) none
+    ∷ parts (role 0 0) top (times 18 (0 ∷ [])) (some 2)
     -- 3: the transitive byte, and a parent in the low byte and in the high one
     ∷ parts (role 1 0) top (0 ∷ []) none
     ∷ parts (role 2 0) top (0 ∷ []) (some 3)
@@ -104,5 +116,5 @@ trials =
     ∷ []
 
 trials-hold : map (λ t. bytesTest (t .given)) trials ≡ map (λ t. t .answer) trials
-unfolding trials bytesTest partsTest sizesTest fills fillsFrom descriptionTests allBelow anyBelow narrow entryTest literal entryFrom ifLeast ifEvery simple ancestor closure has sameEntry
+unfolding trials times bytesTest partsTest sizesTest fills fillsFrom descriptionTests allBelow anyBelow narrow entryTest literal entryFrom ifLeast ifEvery simple ancestor closure has sameEntry
 trials-hold = refl
