@@ -6,7 +6,7 @@ use mathlib.Core.Bool.{Bool, true, false, cond, _&&_}
 use mathlib.Core.List.{List}
 use lib.Dec.{eqb, leb}
 use borrow.Author.Tests.{ne-eqb, lt-leb, le-leb}
-use lib.ListN.{length}
+use lib.ListN.{length, drop}
 use Rattle.logic.specs.Tests.{So, reading}
 use Rattle.logic.specs.Lists.{tabulate}
 use Rattle.parts.specs.Numbers.{byteAt, num2}
@@ -43,12 +43,16 @@ headOf s = cond (headTest s) (cond (eqb (byteAt s 0) 1) (GraphOf (recordCount s)
 abbrev pub recordAt : List ℕ → ℕ → List ℕ
 recordAt s i = partAt s 2 i
 
--- edge j behind the label of a record
+-- edge j of the bytes behind a label, and all of them
 abbrev pub edgeIn : List ℕ → ℕ → Edge
-edgeIn r j = record { target = byteAt r (8 + 5 * j); mask = num2 r (9 + 5 * j); count = num2 r (11 + 5 * j) }
+edgeIn es j = record { target = byteAt es (5 * j); mask = num2 es (5 * j + 1); count = num2 es (5 * j + 3) }
 
+abbrev pub edgesIn : List ℕ → List Edge
+edgesIn es = tabulate (length es / 5) (edgeIn es)
+
+-- a label of 8 bytes, then edges
 abbrev pub nodeIn : List ℕ → Node
-nodeIn r = record { label = labelIn r 0; edges = tabulate ((length r - 8) / 5) (edgeIn r) }
+nodeIn r = record { label = labelIn r 0; edges = edgesIn (drop 8 r) }
 
 -- the graph that the records are
 abbrev pub graphIn : List ℕ → Graph

@@ -21,6 +21,7 @@ use parts::pairs_fill;
 use parts::read2;
 use roles::ancestors;
 use roles::complex_roles;
+use roles::fits16;
 use roles::has16;
 use tables::Concept;
 use tables::EntryNo;
@@ -55,14 +56,6 @@ fn read_directory(d: &[u8]) -> Directory
     }
 }
 
-// Whether a mask has no bit from `n` on.
-fn fits(m: u16, n: usize) -> bool
-    requires { ⌜ n ≤ 16 ⌝ }
-    ensures { λ r. ⌜ r ≡ narrow m n ⌝ }
-{
-    (m as usize) < (1 << n)
-}
-
 // A part of `len` bytes: whole records of `size` bytes, at least one, within `most` bytes.
 fn records_ok(len: usize, size: usize, most: usize) -> bool
     requires { ⌜ 1 ≤ size ⌝ }
@@ -85,7 +78,7 @@ fn role_ok(rs: &[u8], r: RoleNo, n: usize) -> bool
     ensures { λ q. ⌜ q ≡ (leb (byteAt (now (rs .entry)) (3 * r .0)) 1 && narrow (num2 (now (rs .entry)) (3 * r .0 + 1)) n) ⌝ }
 {
     let at = 3 * (r.0 as usize);
-    (byte(rs, at) <= 1) & fits(mask2(rs, at + 1), n)
+    (byte(rs, at) <= 1) & fits16(mask2(rs, at + 1), n)
 }
 
 // Test 3.

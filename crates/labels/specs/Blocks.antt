@@ -9,7 +9,7 @@ use lib.Pow.{high, low, pow-mono, shr-shr}
 use lib.Bits.{bitAnd, and-block, and-lt, block-half, block-odd}
 use lib.Dec.{eqb, ltb}
 use borrow.Author.Tests.{eq-eqb, ne-eqb, eqb-true, eqb-false}
-use Rattle.logic.specs.Tests.{so-and, and-l, and-r, so-eqb, so-ltb, ltb-so, same-test}
+use Rattle.logic.specs.Tests.{so-and, and-l, and-r, so-eqb, so-ltb, same-test}
 use Rattle.logic.specs.Sets.{has, narrow, within}
 use Rattle.logic.specs.SetLaws.{has-suc, narrow↔}
 
@@ -64,8 +64,3 @@ narrow-high k hi lo n h g = same-test _ _
     ]))
     (λ u. narrow↔ hi (n - k) .1 (λ i m. let e : k + i - k ≡ i = omega arith in
     let w = narrow↔ (block k hi lo) n .0 u (k + i) (sym (has-high k hi lo (k + i) h (omega arith)) ∙ ap (has hi) e ∙ m) in omega arith))
-
--- every word of k digits is below n from k on
-pub narrow-whole : (k x n : ℕ) → x < 2 ^ k → k ≤ n → true ≡ narrow x n
-unfolding narrow
-narrow-whole k x n h g = let w : 2 ^ k ≤ 2 ^ n = pow-mono g in sym (ltb-so x (2 ^ n) (omega arith))

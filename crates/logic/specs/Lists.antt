@@ -1,13 +1,13 @@
 -- Lists: membership, tests of all and of some members, the list of a function's first values, an element past the end.
 use Prim.Native.Nat.{ℕ, zero, suc, _<_}
-use mathlib.Core.Path.{_≡_, refl, sym, ap, subst}
+use mathlib.Core.Path.{_≡_, refl, sym, _∙_, ap, subst}
 use mathlib.Core.Logic.{_↔_, inl, inr}
 use mathlib.Core.Bool.{Bool, true, false, _&&_, _||_, false≢true}
 use mathlib.Core.List.{List, [], _∷_, _++_, List·Memᴰ, List·Memᴰ·head, List·Memᴰ·tail, List·Memᴰ·cases-cons}
 use native.Mathlib.Omega.{arith}
 use lib.ListN.{length, getD}
-use Rattle.logic.specs.Tests.{So, so-and, and-l, and-r, or-l, or-r, or-cases}
-use Rattle.logic.specs.Bounded.{below}
+use Rattle.logic.specs.Tests.{So, so-and, and-l, and-r, or-l, or-r, or-cases, same-test}
+use Rattle.logic.specs.Bounded.{allBelow, all-intro, all-elim, below}
 
 infix 30 _∈_
 abbrev pub _∈_ : {A : Type 0} → A → List A → Type 0
@@ -61,6 +61,21 @@ unfolding tabulate
 at-tabulate zero f d i h = absurd (omega arith)
 at-tabulate (suc n) f d zero h = refl
 at-tabulate (suc n) f d (suc i) h = at-tabulate n (λ j. f (suc j)) d i (omega arith)
+
+-- a test of all values is the test of each element
+all-front : (n : ℕ) (p : ℕ → Bool) → allBelow (suc n) p ≡ (p 0 && allBelow n (λ i. p (suc i)))
+all-front n p = same-test _ _
+    (λ h. so-and (p 0) _ (all-elim (suc n) p h 0 (omega arith)) (all-intro n (λ i. p (suc i)) (λ i l. all-elim (suc n) p h (suc i) (omega arith))))
+    (λ h. all-intro (suc n) p (λ i l. at i l (and-l (p 0) _ h) (all-elim n (λ i. p (suc i)) (and-r (p 0) _ h))))
+  where
+    at : (i : ℕ) → i < suc n → So (p 0) → ((i : ℕ) → i < n → So (p (suc i))) → So (p i)
+    at zero l z f = z
+    at (suc i) l z f = f i (omega arith)
+
+pub each-tabulate : {A : Type 0} (n : ℕ) (f : ℕ → A) (p : A → Bool) → allBelow n (λ i. p (f i)) ≡ each (tabulate n f) p
+unfolding each tabulate allBelow
+each-tabulate zero f p = refl
+each-tabulate (suc n) f p = all-front n (λ i. p (f i)) ∙ ap (λ b. p (f 0) && b) (each-tabulate n (λ i. f (suc i)) p)
 
 -- ---- one element more
 pub length-snoc : {A : Type 0} (xs : List A) (x : A) → length (xs ++ (x ∷ [])) ≡ suc (length xs)

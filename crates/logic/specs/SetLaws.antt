@@ -103,6 +103,11 @@ pub narrow-word : (k x n : ℕ) → n < k → ltb x (1 * 2 ^ n % 2 ^ k) ≡ narr
 unfolding narrow
 narrow-word k x n h = ap (ltb x) (ap (λ m. m % 2 ^ k) (one-mul (2 ^ n)) ∙ mod-eq-of-lt (pow-lt h))
 
+-- every word of k digits is below n from k on
+pub narrow-whole : (k x n : ℕ) → x < 2 ^ k → k ≤ n → true ≡ narrow x n
+unfolding narrow
+narrow-whole k x n h g = let w : 2 ^ k ≤ 2 ^ n = pow-mono g in sym (ltb-so x (2 ^ n) (omega arith))
+
 -- a set whose members are below k is a number below 2 ^ k
 pub lt-has : (k n : ℕ) → ((i : ℕ) → So (has n i) → i < k) → n < 2 ^ k
 lt-has zero n h = elim (decLe 1 n) [ yes q ↦ absurd (let r = some-member n q in omega (arith, h (r .0) (r .1))) | no q ↦ omega arith ]

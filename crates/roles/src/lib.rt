@@ -5,7 +5,7 @@ ghost use lib.Bits.{bitOr};
 ghost use lib.Dec.{eqb};
 ghost use Prim.Native.Nat.{ℕ, _+_, _*_, _/_, _<_, _≤_, _^_};
 ghost use lib.ListN.{length, getD};
-ghost use Rattle.logic.specs.Sets.{has};
+ghost use Rattle.logic.specs.Sets.{has, narrow};
 ghost use Rattle.roles.specs.Ancestors.{AncestorsOf, roleCount, passed, joined, aboveTransitive};
 use parts::byte;
 use parts::mask2;
@@ -16,6 +16,17 @@ pub fn has16(x: u16, i: u8) -> bool
     ensures { λ r. ⌜ r ≡ has x i ⌝ }
 {
     (i < 16) & ((x >> (i % 16)) % 2 == 1)
+}
+
+// Whether the mask holds numbers below `n` alone.
+pub fn fits16(x: u16, n: usize) -> bool
+    ensures { λ r. ⌜ r ≡ narrow x n ⌝ }
+{
+    if n < 16 {
+        (x as usize) < (1 << n)
+    } else {
+        true
+    }
 }
 
 // The mask of role `i` with itself and its parents.

@@ -1,5 +1,4 @@
-use Rattle.logic.specs.SetLaws.{narrow-word}
-use Rattle.labels.specs.Blocks.{narrow-whole}
+use Rattle.logic.specs.SetLaws.{narrow-word, narrow-whole}
 use borrow.Author.Needs.{needs}
 use Rattle.labels.proofs.below32.Statement.{statement}
 use Rattle.labels.proofs.below32.Tie as tie

@@ -1,0 +1,70 @@
+-- Rule 13 of a graph's edges as the code tests it, on masks.
+use Prim.Native.Nat.{ℕ, _+_, _*_, _/_, _≤_, _<_}
+use mathlib.Core.Path.{_≡_, refl, _∙_, ap}
+use mathlib.Core.Bool.{Bool, _&&_}
+use mathlib.Core.List.{List}
+use native.Mathlib.Omega.{arith}
+use lib.Dec.{leb, ltb}
+use lib.ListN.{length, getD}
+use Rattle.logic.specs.Tests.{So, _⇒_, same-test, imp-in, imp-out}
+use Rattle.logic.specs.Bounded.{allBelow, all-cong, all-intro, all-elim}
+use Rattle.logic.specs.Lists.{each, each-tabulate}
+use Rattle.logic.specs.Sets.{has, nonempty, narrow, within}
+use Rattle.logic.specs.SetLaws.{within↔, setOf↔}
+use Rattle.parts.specs.Numbers.{byteAt, num2, upTo, up-to-all}
+use Rattle.description.specs.Descriptions.{Description}
+use Rattle.description.specs.Roles.{ancestor}
+use Rattle.tables.specs.Tables.{describe}
+use Rattle.roles.specs.Ancestors.{AncestorsOf, ancestor-masks}
+use Rattle.graph.specs.Graphs.{Edge}
+use Rattle.graph.specs.GraphTests.{storedGraph, edgeTest}
+use Rattle.evidence.specs.Evidence.{edgeIn, edgesIn}
+use Rattle.edges.specs.declared.Edge as Code
+
+-- the code's edge j
+abbrev pub edgeStruct : List ℕ → ℕ → Code.Edge
+edgeStruct es j = record { target = byteAt es (5 * j); mask = num2 es (5 * j + 1); count = num2 es (5 * j + 3) }
+
+-- role r of the mask m brings its ancestors, with the table a of ancestors
+abbrev pub upwardAt : List ℕ → ℕ → ℕ → Bool
+upwardAt a m r = has m r ⇒ within (getD a r 0) m
+
+-- 13, of one edge, in a table of n roles and a graph of `size` records
+abbrev pub edgeCode : List ℕ → ℕ → ℕ → Code.Edge → Bool
+edgeCode a n size E = (ltb (E .target) size && (nonempty (E .mask) && (narrow (E .mask) n && (allBelow n (upwardAt a (E .mask)) && leb 1 (E .count))))) && leb (E .count) 1000
+
+-- of all edges of the slice, at most 32
+abbrev pub edgesCode : List ℕ → ℕ → ℕ → List ℕ → Bool
+edgesCode a n size es = allBelow (upTo 32 (length es / 5)) (λ j. edgeCode a n size (edgeStruct es j))
+
+-- ---- it is the test of the edge
+module _ (rs cs qs a : List ℕ) (anc : AncestorsOf rs a) (few : length rs / 3 ≤ 16) where
+  abbrev D : Description
+  D = describe rs cs qs
+
+  upward-is : ((r s : ℕ) → r < D .roles → So (ancestor D r s) → s < D .roles) → (m r : ℕ) → r < length rs / 3
+      → within (getD a r 0) m ≡ allBelow (length rs / 3) (λ s. ancestor D r s ⇒ has m s)
+  upward-is inside m r h = ap (λ x. within x m) (ancestor-masks rs cs qs a anc few r (omega arith)) ∙ same-test _ _
+      (λ u. all-intro (length rs / 3) _ (λ s l. imp-in _ _ (λ v. within↔ _ m .0 u s (setOf↔ 16 (ancestor D r) s .1 (omega arith, v)))))
+      (λ u. within↔ _ m .1 (λ s v. let w = setOf↔ 16 (ancestor D r) s .0 v in imp-out _ _ (all-elim (length rs / 3) _ u s (inside r s h (w .1))) (w .1)))
+
+  pub edge-is : ((r s : ℕ) → r < D .roles → So (ancestor D r s) → s < D .roles) → (size : ℕ) (es : List ℕ) (j : ℕ)
+      → edgeCode a (length rs / 3) size (edgeStruct es j) ≡ edgeTest storedGraph D size (edgeIn es j)
+  unfolding edgeTest
+  edge-is inside size es j = ap (λ b. (ltb (byteAt es (5 * j)) size && (nonempty m && (narrow m (length rs / 3) && (b && leb 1 c)))) && leb c 1000)
+      (all-cong (length rs / 3) _ _ (λ r h. ap (λ b. has m r ⇒ b) (upward-is inside m r h)))
+    where
+      m : ℕ
+      m = num2 es (5 * j + 1)
+
+      c : ℕ
+      c = num2 es (5 * j + 3)
+
+  pub edges-are : ((r s : ℕ) → r < D .roles → So (ancestor D r s) → s < D .roles) → (size : ℕ) (es : List ℕ) → length es / 5 ≤ 32
+      → edgesCode a (length rs / 3) size es ≡ each (edgesIn es) (edgeTest storedGraph D size)
+  edges-are inside size es short = ap (λ k. allBelow k (λ j. edgeCode a (length rs / 3) size (edgeStruct es j))) (up-to-all 32 (length es / 5) short) ∙ all-cong (length es / 5) _ _ (λ j _. edge-is inside size es j) ∙ each-tabulate (length es / 5) (edgeIn es) (edgeTest storedGraph D size)
+
+-- ---- a law for the code
+pub edges-read : (es a : List ℕ) (roles size k n : ℕ) → k ≡ upTo 32 (length es / 5) → n ≡ upTo 16 roles
+    → allBelow k (λ j. edgeCode a n size (edgeStruct es j)) ≡ edgesCode a (upTo 16 roles) size es
+edges-read es a roles size k n p q = rw (p, q) refl

@@ -1,0 +1,91 @@
+// Rule 13: the edges behind a record's label.
+ghost use mathlib.Core.Path.{_≡_};
+ghost use Prim.Native.Nat.{_*_, _/_, _<_, _≤_};
+ghost use lib.ListN.{length, getD};
+ghost use Rattle.logic.specs.Tests.{_⇒_};
+ghost use Rattle.logic.specs.Bounded.{allBelow};
+ghost use Rattle.logic.specs.Sets.{has, narrow, within};
+ghost use Rattle.parts.specs.Numbers.{upTo};
+ghost use Rattle.edges.specs.EdgeSteps.{edgeStruct, upwardAt, edgeCode, edgesCode};
+use parts::byte;
+use parts::mask2;
+use parts::read2;
+use parts::up_to;
+use roles::fits16;
+use roles::has16;
+
+pub struct Edge {
+    pub target: u8,
+    pub mask: u16,
+    pub count: usize,
+}
+
+// Edge `j`; bytes past the end count as 0.
+pub fn edge_at(es: &[u8], j: u8) -> Edge
+    ensures { λ r. ⌜ (r ≡ edgeStruct (now (es .entry)) j) × (r .count < 65536) ⌝ }
+{
+    let at = 5 * (j as usize);
+    Edge {
+        target: byte(es, at),
+        mask: mask2(es, at + 1),
+        count: read2(es, at + 3),
+    }
+}
+
+// Whether the mask `m` holds the ancestors `above` of role `r`, if it holds `r`.
+fn upward_at(above: u16, m: u16, r: u8) -> bool
+    ensures { λ q. ⌜ q ≡ (has m r ⇒ within above m) ⌝ }
+{
+    if has16(m, r) {
+        above & m == above
+    } else {
+        true
+    }
+}
+
+// Whether the mask holds with each of the `n` roles its ancestors.
+fn upward(a: [u16; 16], m: u16, n: u8) -> bool
+    requires { ⌜ n ≤ 16 ⌝ }
+    ensures { λ q. ⌜ q ≡ allBelow n (upwardAt a m) ⌝ }
+{
+    let mut r: u8 = 0;
+    while r < n {
+        if !upward_at(a[r as usize], m, r) {
+            return false;
+        }
+        r += 1;
+    }
+    true
+}
+
+// Rule 13 of one edge, in a table of `n` roles and a graph of `size` records; `a` holds the ancestors of each role.
+fn edge_ok(e: Edge, a: [u16; 16], n: u8, size: u8) -> bool
+    requires { ⌜ n ≤ 16 ⌝ }
+    ensures { λ q. ⌜ q ≡ edgeCode a n size e ⌝ }
+{
+    let narrow = fits16(e.mask, n as usize);
+    let up = upward(a, e.mask, n);
+    ((e.target < size) & ((0 < e.mask) & (narrow & (up & (1 <= e.count))))) & (e.count <= 1000)
+}
+
+// Rule 13 of the first `k` edges.
+fn edges_hold(es: &[u8], k: u8, a: [u16; 16], n: u8, size: u8) -> bool
+    requires { ⌜ n ≤ 16 ⌝ }
+    ensures { λ q. ⌜ q ≡ allBelow k (λ j. edgeCode a n size (edgeStruct (now (es .entry)) j)) ⌝ }
+{
+    let mut j: u8 = 0;
+    while j < k {
+        if !edge_ok(edge_at(es, j), a, n, size) {
+            return false;
+        }
+        j += 1;
+    }
+    true
+}
+
+// Rule 13 of the edges `es`, in a table of `roles` roles.
+pub fn edges_ok(es: &[u8], a: [u16; 16], roles: usize, size: u8) -> bool
+    ensures { λ q. ⌜ q ≡ edgesCode a (upTo 16 roles) size (now (es .entry)) ⌝ }
+{
+    edges_hold(es, up_to(32, es.len() / 5), a, up_to(16, roles), size)
+}
