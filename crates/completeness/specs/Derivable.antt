@@ -1,24 +1,24 @@
 -- Derivable labels: every valid list of records can be extended to one with a record whose label lies within the label.
 -- Appending spoils no earlier record, so lists are threaded and never merged or renumbered. Each step is a rule for derivable labels.
-use Prim.Native.Nat.{ℕ, zero, suc, _-_, _^_, _≤_, _<_}
+use Prim.Native.Nat.{ℕ, zero, suc, _+_, _-_, _^_, _≤_, _<_}
 use mathlib.Core.Path.{_≡_, refl, sym, _∙_, ap, subst, fun-ext}
-use mathlib.Core.Logic.{_⊎_, inl, inr}
-use mathlib.Core.Bool.{Bool, false≢true}
+use mathlib.Core.Logic.{_↔_, _⊎_, inl, inr}
+use mathlib.Core.Bool.{Bool, true, false, not, _||_, false≢true}
 use mathlib.Core.List.{List, [], _∷_, _++_}
 use native.Mathlib.Omega.{arith}
 use lib.ListN.{length, getD, take}
 use lib.Pow.{pow-pos}
 use lib.Seq.{getD-take, length-take-le}
-use Rattle.logic.specs.Tests.{So, decide, so-false, or-l, or-r, same-test}
+use Rattle.logic.specs.Tests.{So, decide, so-not, so-false, or-l, or-r, same-test}
 use Rattle.logic.specs.Bounded.{up-to}
 use Rattle.logic.specs.Lists.{_∈_, length-snoc, at-snoc-old, at-snoc-new}
 use Rattle.counting.specs.Trees.{Tree, formed}
 use Rattle.counting.specs.TreeLaws.{tree-open}
 use Rattle.counting.specs.Rows.{Closed, limits}
-use Rattle.description.specs.Literals.{Literal, pos, neg, opposite, code, Label, members, plus, Within, InTable, labelOf, members-labelOf, literal-same}
+use Rattle.description.specs.Literals.{Literal, pos, neg, opposite, code, entryOf, Label, members, plus, Within, InTable, labelOf, members-labelOf, literal-same}
 use Rattle.description.specs.Descriptions.{both, Description}
 use Rattle.refutation.specs.Cells.{rowOf, isRow, rowsOf, bounds, Known, length-rows, length-bounds}
-use Rattle.refutation.specs.Records.{Cell, unshown, cited, isOpen, openAt, cellAt, literalAt, Counting, Step, contradiction, conjunction, disjunction, byRule, caseSplit, counting, Refutation, recordAt, numberAt, Formed, RecordOk, Valid}
+use Rattle.refutation.specs.Records.{Cell, unshown, cited, isOpen, openAt, cellAt, literalAt, Counting, Step, contradiction, conjunction, disjunction, byRule, caseSplit, counting, Record, Refutation, recordAt, numberAt, Formed, RecordOk, Valid}
 
 pub record Extends (C C′ : Refutation) : Type 0 where
   pub longer : length C ≤ length C′

@@ -1,10 +1,10 @@
 -- For every accepted description exactly one of two exists, for any wanted literals of the table: a graph that keeps the rules,
 -- then one with at most 2^entries nodes; or a refutation that closes.
-use Prim.Native.Nat.{ℕ, zero, suc, _-_, _^_, _≤_, _<_}
-use mathlib.Core.Path.{_≡_, sym, _∙_, ap, subst}
+use Prim.Native.Nat.{ℕ, zero, suc, _+_, _-_, _^_, _≤_, _<_}
+use mathlib.Core.Path.{_≡_, refl, sym, _∙_, ap, subst}
 use mathlib.Core.Logic.{_↔_, _⊎_, inl, inr}
-use mathlib.Core.Bool.{Bool, cond, _&&_}
-use mathlib.Core.List.{List, []}
+use mathlib.Core.Bool.{Bool, cond, _&&_, false≢true}
+use mathlib.Core.List.{List, [], _∷_}
 use native.Mathlib.Omega.{arith}
 use native.Mathlib.Nat.{one-le-pow}
 use lib.Dec.{ltb}
@@ -15,20 +15,20 @@ use Rattle.logic.specs.Bounded.{anyBelow, any-intro, any-elim}
 use Rattle.logic.specs.Lists.{_∈_, each, each↔, some?, some↔, tabulate, length-tabulate, at-tabulate}
 use Rattle.logic.specs.Sets.{has}
 use Rattle.logic.specs.SetLaws.{no-member}
-use Rattle.description.specs.Literals.{Literal, entryOf, sameLiteral, same-literal, literal-same, Label, members, labelOf}
+use Rattle.description.specs.Literals.{Literal, pos, entryOf, sameLiteral, same-literal, literal-same, Label, members, labelOf, InTable}
 use Rattle.description.specs.Descriptions.{Description}
 use Rattle.description.specs.Acceptance.{Accepted}
 use Rattle.interpretation.specs.Meaning.{Interpretation}
 use Rattle.interpretation.specs.Models.{Model, Satisfies}
-use Rattle.graph.specs.Graphs.{Edge, Node, Graph, nodeAt, labelAt, edgesAt, NodeOk, wantedAt, Keeps}
+use Rattle.graph.specs.Graphs.{Edge, Node, Graph, nodeAt, labelAt, edgesAt, LabelOk, NodeOk, wantedAt, Keeps}
 use Rattle.graph.specs.Line.{line}
 use Rattle.graph.specs.Sound.{graph-sound}
 use Rattle.graph.specs.Relabel.{relabel}
 use Rattle.refutation.specs.Records.{Refutation, numberAt, Valid, Closes}
 use Rattle.refutation.specs.Sound.{refutation-sound}
-use Rattle.completeness.specs.Derivable.{Reaches, cut-valid, label-is}
-use Rattle.completeness.specs.Types.{typ-in, pos-out}
-use Rattle.completeness.specs.Elimination.{type, Supported, AllSupported, none-contains, remaining}
+use Rattle.completeness.specs.Derivable.{Derivable, Reaches, cut-valid, label-is}
+use Rattle.completeness.specs.Types.{typ, typ-in, pos-out}
+use Rattle.completeness.specs.Elimination.{type, Dropped, Supported, AllSupported, none-contains, remaining}
 
 -- a record of which W is wanted, if its label has it
 want : (D : Description) (size : ℕ) (lab : ℕ → Label) (W : List Literal) (L : Label) (es : List Edge) → ((l : Literal) → l ∈ W → So (L l))

@@ -1,15 +1,15 @@
 -- Type elimination: drop types that the remaining ones do not support; each dropped type is derivable.
-use Prim.Native.Nat.{ℕ, zero, suc, _^_, _≤_, _<_}
+use Prim.Native.Nat.{ℕ, zero, suc, _+_, _^_, _≤_, _<_}
 use mathlib.Core.Path.{_≡_, refl, sym, _∙_, ap, subst}
-use mathlib.Core.Logic.{_⊎_, inl, inr}
+use mathlib.Core.Logic.{_↔_, _⊎_, inl, inr}
 use mathlib.Core.Bool.{Bool, true, false, not, _&&_, _||_, false≢true}
 use mathlib.Core.List.{List, []}
 use native.Mathlib.Omega.{arith}
 use native.Mathlib.Decide.{decLe}
 use lib.Dec.{eqb, ltb}
 use lib.ListN.{length}
-use Rattle.logic.specs.Tests.{So, _⇒_, decide, so-and, and-l, and-r, or-l, or-r, not-so, so-not, so-eqb}
-use Rattle.logic.specs.Bounded.{allBelow, anyBelow, all-elim, all-not, any-intro, up-to, find, find-ok}
+use Rattle.logic.specs.Tests.{So, _⇒_, decide, so-and, and-l, and-r, or-l, or-r, or-cases, not-so, so-not, so-eqb, imp-in}
+use Rattle.logic.specs.Bounded.{allBelow, anyBelow, all-elim, all-not, any-intro, any-elim, up-to, find, find-ok}
 use Rattle.logic.specs.Lists.{_∈_}
 use Rattle.logic.specs.Sums.{countBelow, count-bound, count-some, count-remove}
 use Rattle.logic.specs.Sets.{has, setOf}
@@ -17,14 +17,14 @@ use Rattle.logic.specs.SetLaws.{has-setOf, setOf-lt}
 use Rattle.counting.specs.Trees.{Tree, formed, live}
 use Rattle.counting.specs.Rows.{Solves, Closed}
 use Rattle.counting.specs.Solutions.{closed-sound, solved-or-closed}
-use Rattle.description.specs.Literals.{Literal, pos, neg, opposite, entryOf, entryOf-opposite, Label, plus, plus↔, Within, InTable, literal-same}
+use Rattle.description.specs.Literals.{Literal, pos, neg, opposite, opposite-opposite, entryOf, entryOf-opposite, Label, plus, plus↔, Within, InTable, literal-same}
 use Rattle.description.specs.Descriptions.{Entry, top, name, both, every, atLeast, Description, ifBoth}
 use Rattle.description.specs.Acceptance.{Accepted, fields-at}
 use Rattle.graph.specs.Graphs.{Edge, LabelOk, NodeOk}
 use Rattle.graph.specs.GraphTests.{bothTest, both↔}
 use Rattle.refutation.specs.Cells.{Row, rowOf, isRow, rowFrom, rowsOf, rowAt, bounds, RowIn, known, known↔, rows-in, known-in, length-rows, length-bounds, bound-at, row-at}
 use Rattle.completeness.specs.Derivable.{Derivable, derivable-mono, by-contradiction, by-bottom, by-conjunction, by-disjunction, by-rule, by-counting}
-use Rattle.completeness.specs.Types.{typ, pos-in, neg-in, typ-in, typ-full, typ-one, typ-cong, chosen-in, lies, lies↔, resolve}
+use Rattle.completeness.specs.Types.{chosen, typ, pos-in, neg-in, pos-out, typ-in, typ-full, typ-one, typ-cong, chosen-in, lies, lies↔, resolve}
 use Rattle.completeness.specs.TypeRows.{TypeRows, rowsOfType, at-places}
 use Rattle.completeness.specs.Nodes.{solved}
 

@@ -1,29 +1,31 @@
 -- A type whose rows have a solution over the cells that some remaining type contains is a node of a graph over the remaining types.
-use Prim.Native.Nat.{ℕ, _^_, _≤_, _<_}
+use Prim.Native.Nat.{ℕ, zero, suc, _+_, _-_, _^_, _≤_, _<_}
 use mathlib.Core.Path.{_≡_, refl, sym, _∙_, ap, subst}
 use mathlib.Core.Logic.{_↔_, _⊎_, inl, inr}
-use mathlib.Core.Bool.{Bool, cond, _&&_}
+use mathlib.Core.Bool.{Bool, true, false, cond, not, _&&_, false≢true}
 use mathlib.Core.List.{List}
 use mathlib.Core.Option.{some}
 use native.Mathlib.Omega.{arith}
+use native.Mathlib.Decide.{decLe}
 use lib.Dec.{ltb}
 use lib.ListN.{length}
 use Rattle.logic.specs.Tests.{So, decide, so-and, and-l, and-r, so-not, not-so, so-false, so-ltb, same-test}
 use Rattle.logic.specs.Bounded.{any-intro, any-elim}
 use Rattle.logic.specs.Lists.{_∈_}
-use Rattle.logic.specs.Sums.{sum-cong, only, only-on, only-off, only-le, only-zero}
+use Rattle.logic.specs.Sums.{sumBelow, sum-cong, only, only-on, only-off, only-le, only-zero}
 use Rattle.logic.specs.Sets.{has, setOf}
 use Rattle.logic.specs.SetLaws.{setOf↔, some-member, has-lt}
-use Rattle.counting.specs.Trees.{Meets, live}
-use Rattle.counting.specs.Trees as Trees
-use Rattle.description.specs.Literals.{Literal, pos, neg, opposite, Label}
-use Rattle.description.specs.Descriptions.{atLeast, Description}
+use Rattle.counting.specs.Trees.{Side, lower, upper, Meets, live}
+use Rattle.counting.specs.Rows.{Bound, boundAt, Solves}
+use Rattle.description.specs.Literals.{Literal, pos, neg, opposite, entryOf, Label, InTable}
+use Rattle.description.specs.Descriptions.{Entry, top, name, both, every, atLeast, Description}
 use Rattle.description.specs.Roles.{ancestor, anc-refl, anc-in, anc-trans}
 use Rattle.description.specs.Acceptance.{Accepted, fields-at}
 use Rattle.graph.specs.Graphs.{Edge, ofRole, total, counted, LabelOk, BothOk, EdgeOk, NodeOk}
-use Rattle.refutation.specs.Cells.{Row, positiveRow, negativeRow, rowOf, isRow, rowFrom, rowAt, RowIn, cellRole, Known, qualified, denied, passed, onward}
-use Rattle.completeness.specs.Types.{chosen, typ, pos-out, neg-out, typ-full, typ-one}
+use Rattle.refutation.specs.Cells.{Row, positiveRow, negativeRow, rowOf, isRow, rowFrom, rowsOf, rowAt, bounds, RowIn, cellRole, Known, qualified, denied, passed, onward, length-rows, length-bounds, bound-at, row-at}
+use Rattle.completeness.specs.Types.{chosen, typ, pos-in, neg-in, pos-out, neg-out, typ-in, typ-full, typ-one}
 use Rattle.completeness.specs.TypeRows.{edgesBelow, edge-of-cell, edges-total, total-some}
+use Rattle.counting.specs.Trees as Trees
 
 module _ (D : Description) (A : Accepted D) (p : ℕ → Bool) (size : ℕ) (lab : ℕ → ℕ → Bool) (rows : List Row)
     (row-in : (i : ℕ) → i < length rows → RowIn D (rowAt rows i)) (open? : ℕ → Bool) (x : ℕ → ℕ)

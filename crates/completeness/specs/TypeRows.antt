@@ -1,14 +1,14 @@
 -- The row literals of a type, all of them, rising; and the edges that a solution of their rows gives.
-use Prim.Native.Nat.{ℕ, zero, suc, _+_, _*_, _≤_, _<_}
+use Prim.Native.Nat.{ℕ, zero, suc, _+_, _*_, _-_, _^_, _≤_, _<_}
 use mathlib.Core.Path.{_≡_, refl, sym, _∙_, ap, subst}
-use mathlib.Core.Logic.{_⊎_, inl, inr}
-use mathlib.Core.Bool.{Bool, true, false, cond, false≢true}
+use mathlib.Core.Logic.{_↔_, _⊎_, inl, inr}
+use mathlib.Core.Bool.{Bool, true, false, cond, not, _&&_, false≢true}
 use mathlib.Core.List.{List, [], _∷_, _++_, List·Memᴰ·head, List·Memᴰ·tail, List·Memᴰ·cases-cons}
 use native.Mathlib.Omega.{arith}
 use native.Mathlib.Decide.{decLe}
 use lib.Dec.{ltb}
-use lib.ListN.{length}
-use Rattle.logic.specs.Tests.{So, decide, so-ltb, ltb-so}
+use lib.ListN.{length, getD}
+use Rattle.logic.specs.Tests.{So, decide, so-false, so-ltb, ltb-so}
 use Rattle.logic.specs.Bounded.{up-to}
 use Rattle.logic.specs.Lists.{_∈_, length-snoc, at-snoc-old, at-snoc-new, member-at}
 use Rattle.logic.specs.Sums.{sumBelow, only, only-off, only-le}

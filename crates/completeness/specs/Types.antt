@@ -6,8 +6,8 @@ use mathlib.Core.Bool.{Bool, true, false, cond, not, _&&_, _||_, false≢true}
 use native.Mathlib.Omega.{arith}
 use lib.Dec.{eqb, ltb}
 use Rattle.logic.specs.Tests.{So, _⇒_, decide, so-and, and-l, and-r, or-l, or-r, or-cases, not-so, so-not, so-false, so-eqb, eqb-so, so-ltb, ltb-so, imp-in}
-use Rattle.logic.specs.Bounded.{allBelow, below, below-cases, all-not}
-use Rattle.description.specs.Literals.{Literal, pos, neg, opposite, code, literal, literal-code, code-literal, code-entry, entryOf, Label, plus, plus↔, Within, InTable}
+use Rattle.logic.specs.Bounded.{allBelow, below, below-cases, all-intro, all-elim, all-not}
+use Rattle.description.specs.Literals.{Literal, pos, neg, opposite, code, literal, literal-code, code-literal, code-entry, entryOf, Label, plus, plus↔, Within, InTable, literal-same}
 use Rattle.description.specs.Descriptions.{Description}
 use Rattle.completeness.specs.Derivable.{Derivable, derivable-mono, by-contradiction, by-cases}
 

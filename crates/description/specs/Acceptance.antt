@@ -1,7 +1,7 @@
 -- When a description is accepted: tests 3 to 8 of the table of refusals (FORMAT 3), stated and as tests in the table's order.
 -- Each test is made of tests of one item against the table. What only bytes can get wrong of a role (its transitive byte) and of an
 -- entry (an unknown kind, a field that is not used) belongs to 3 and 4 and comes in as two further tests, one of each.
-use Prim.Native.Nat.{ℕ, _≤_, _<_}
+use Prim.Native.Nat.{ℕ, zero, suc, _≤_, _<_}
 use mathlib.Core.Path.{_≡_, refl, sym, _∙_, subst}
 use mathlib.Core.Logic.{_↔_, _≢_, Iff·rfl}
 use mathlib.Core.Bool.{Bool, true, not, _&&_}
@@ -15,7 +15,7 @@ use Rattle.logic.specs.Sets.{narrow}
 use Rattle.logic.specs.SetLaws.{narrow↔}
 use Rattle.logic.specs.Refusals.{unless, unless↔}
 use Rattle.description.specs.Literals.{Literal, entryOf}
-use Rattle.description.specs.Descriptions.{Entry, top, name, both, every, atLeast, Description, included, compound, sameEntry, ifEvery, ifLeast, kinds}
+use Rattle.description.specs.Descriptions.{Entry, top, name, both, every, atLeast, Description, included, compound, sameEntry, sameEntry↔, ifEvery, ifLeast, kinds}
 use Rattle.description.specs.Roles.{ancestor, simple}
 
 -- the greatest number of an "at least"

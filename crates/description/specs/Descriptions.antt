@@ -3,6 +3,7 @@ use Prim.Native.Nat.{ℕ, zero, suc}
 use mathlib.Core.Path.{_≡_, refl, sym, _∙_, ap, subst}
 use mathlib.Core.Logic.{_↔_}
 use mathlib.Core.Bool.{Bool, true, false, _&&_, false≢true}
+use mathlib.Core.Option.{Option, none, some, Option·some-injective}
 use lib.Dec.{eqb}
 use Rattle.logic.specs.Tests.{So, so-and, eqb-so, reading}
 use Rattle.logic.specs.Sets.{has}

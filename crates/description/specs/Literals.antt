@@ -1,12 +1,12 @@
 -- Literals, and sets of literals (01, "The description"; FORMAT 2).
-use Prim.Native.Nat.{ℕ, _+_, _*_, _/_, _%_, _<_}
-use mathlib.Core.Path.{_≡_, refl, sym, ap, subst}
+use Prim.Native.Nat.{ℕ, zero, suc, _+_, _*_, _/_, _%_, _^_, _≤_, _<_}
+use mathlib.Core.Path.{_≡_, refl, sym, _∙_, ap, subst}
 use mathlib.Core.Logic.{_↔_, _⊎_, inl, inr}
-use mathlib.Core.Bool.{Bool, cond, _||_}
+use mathlib.Core.Bool.{Bool, true, false, cond, _||_}
 use native.Mathlib.Omega.{arith}
 use native.Mathlib.Decide.{decLe}
-use lib.Dec.{eqb}
-use Rattle.logic.specs.Tests.{So, so-eqb, eqb-so, or-l, or-r, or-cases, same-test}
+use lib.Dec.{eqb, ltb}
+use Rattle.logic.specs.Tests.{So, so-eqb, eqb-so, so-false, or-l, or-r, or-cases, same-test, eqb↔}
 use Rattle.logic.specs.Sets.{has, narrow, within, with, setOf}
 use Rattle.logic.specs.SetLaws.{no-member, narrow↔, within↔, with↔, setOf↔}
 

@@ -16,7 +16,7 @@ use Rattle.logic.specs.Refusals.{Refusal, refuseFrom}
 use Rattle.description.specs.Literals.{Literal, pos, neg, members}
 use Rattle.description.specs.Descriptions.{Entry, top, name, both, every, atLeast, Description, sameEntry, ifBoth, ifEvery, ifLeast}
 use Rattle.description.specs.Roles.{ancestor, simple}
-use Rattle.description.specs.Acceptance.{entryTest, descriptionTests, accepted↔}
+use Rattle.description.specs.Acceptance.{entryTest, descriptionRefusal, descriptionTests, accepted↔}
 use Rattle.interpretation.specs.Models.{Model, Satisfies}
 use Rattle.graph.specs.Graphs.{Edge, Node, Graph, total, Keeps, GraphLimits}
 use Rattle.graph.specs.GraphTests.{anyGraph, storedGraph, labelTest, bothTest, edgeTest, everyTest, countTest, nodeRefusal, graphRefusal, lifted-graph↔}

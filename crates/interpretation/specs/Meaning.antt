@@ -1,10 +1,10 @@
 -- Finite interpretations, and what is true where: the semantics of SHQ (Figure 1 of document 001; 01, the opening).
-use Prim.Native.Nat.{ℕ, zero, suc, _<_}
-use mathlib.Core.Path.{_≡_, refl, _∙_, ap, ap₂, fun-ext}
+use Prim.Native.Nat.{ℕ, zero, suc, _≤_, _<_}
+use mathlib.Core.Path.{_≡_, refl, sym, _∙_, ap, ap₂, fun-ext}
 use mathlib.Core.Bool.{Bool, true, false, not, _&&_}
 use native.Mathlib.Omega.{arith}
 use lib.Dec.{leb}
-use Rattle.logic.specs.Tests.{_⇒_}
+use Rattle.logic.specs.Tests.{So, _⇒_}
 use Rattle.logic.specs.Bounded.{allBelow}
 use Rattle.logic.specs.Sums.{countBelow}
 use Rattle.description.specs.Literals.{Literal, pos, neg, opposite, entryOf}

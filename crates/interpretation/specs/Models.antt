@@ -1,15 +1,17 @@
 -- Models of a description (01, the opening), and what a true entry says of an element and its fillers.
-use Prim.Native.Nat.{ℕ, _≤_, _<_}
-use mathlib.Core.Path.{_≡_, subst}
-use mathlib.Core.Logic.{_↔_, inl, inr}
-use mathlib.Core.Bool.{Bool, _&&_}
+use Prim.Native.Nat.{ℕ, zero, suc, _≤_, _<_}
+use mathlib.Core.Path.{_≡_, refl, sym, _∙_, subst}
+use mathlib.Core.Logic.{_↔_, _⊎_, inl, inr}
+use mathlib.Core.Bool.{Bool, not, _&&_}
 use mathlib.Core.List.{List}
-use Rattle.logic.specs.Tests.{So, decide, so-and, and↔, not↔, imp↔, leb↔}
-use Rattle.logic.specs.Bounded.{anyBelow, any-intro, any-elim, all↔}
+use native.Mathlib.Omega.{arith}
+use lib.Dec.{leb}
+use Rattle.logic.specs.Tests.{So, _⇒_, decide, so-and, so-not, not-so, reading, and↔, not↔, imp↔, leb↔}
+use Rattle.logic.specs.Bounded.{allBelow, anyBelow, any-intro, any-elim, all↔}
 use Rattle.logic.specs.Lists.{_∈_}
 use Rattle.logic.specs.Sums.{countBelow, count-some}
-use Rattle.description.specs.Literals.{Literal, opposite, Label, plus, plus↔}
-use Rattle.description.specs.Descriptions.{top, both, every, atLeast, Description, included}
+use Rattle.description.specs.Literals.{Literal, pos, neg, opposite, Label, plus, plus↔}
+use Rattle.description.specs.Descriptions.{Entry, top, name, both, every, atLeast, Description, included}
 use Rattle.description.specs.Roles.{ancestor, anc-ind}
 use Rattle.description.specs.Acceptance.{Accepted, first-top}
 use Rattle.interpretation.specs.Meaning.{Interpretation, meaning, truth, truth-eq, holds, holds-opposite}

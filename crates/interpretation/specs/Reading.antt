@@ -1,4 +1,6 @@
 -- The direct reading of an interpretation (01, "The written line"): HOLDS exactly if it is a model that satisfies what is wanted.
+use Prim.Native.Nat.{ℕ, zero, suc, _≤_, _<_}
+use mathlib.Core.Path.{_≡_, refl}
 use mathlib.Core.Logic.{_↔_}
 use mathlib.Core.Bool.{Bool, _&&_}
 use mathlib.Core.List.{List}

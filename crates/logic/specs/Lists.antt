@@ -1,13 +1,13 @@
 -- Lists: membership, tests of all and of some members, the list of a function's first values, an element past the end.
-use Prim.Native.Nat.{ℕ, zero, suc, _<_}
+use Prim.Native.Nat.{ℕ, zero, suc, _+_, _≤_, _<_}
 use mathlib.Core.Path.{_≡_, refl, sym, _∙_, ap, subst}
-use mathlib.Core.Logic.{_↔_, inl, inr}
+use mathlib.Core.Logic.{_↔_, _⊎_, inl, inr}
 use mathlib.Core.Bool.{Bool, true, false, _&&_, _||_, false≢true}
 use mathlib.Core.List.{List, [], _∷_, _++_, List·Memᴰ, List·Memᴰ·head, List·Memᴰ·tail, List·Memᴰ·cases-cons}
 use native.Mathlib.Omega.{arith}
 use lib.ListN.{length, getD}
 use Rattle.logic.specs.Tests.{So, so-and, and-l, and-r, or-l, or-r, or-cases, same-test}
-use Rattle.logic.specs.Bounded.{allBelow, all-intro, all-elim, below}
+use Rattle.logic.specs.Bounded.{below, below-cases, all-elim, all-intro, allBelow}
 
 infix 30 _∈_
 abbrev pub _∈_ : {A : Type 0} → A → List A → Type 0

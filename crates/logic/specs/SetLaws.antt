@@ -1,17 +1,17 @@
 -- Laws of sets as numbers, for any width: membership decides a set, and each operation is told by its members.
 use Prim.Native.Nat.{ℕ, zero, suc, _+_, _*_, _/_, _%_, _^_, _<_, _≤_, min, max}
 use mathlib.Core.Path.{_≡_, refl, _∙_, sym, ap, subst}
-use mathlib.Core.Bool.{Bool, true, false, _&&_, _||_}
+use mathlib.Core.Bool.{Bool, true, false, _||_, _&&_}
 use mathlib.Core.Logic.{_↔_, _⊎_, inl, inr}
 use native.Mathlib.Omega.{arith}
 use native.Mathlib.Decide.{decLe, decLt}
-use native.Mathlib.Nat.{div-one, div-eq-of-lt, div-self, div-div-eq-div-mul, mod-eq-of-lt, mod-lt, one-mul, mul-comm, pow-suc}
+use native.Mathlib.Nat.{div-one, div-eq-of-lt, div-self, div-div-eq-div-mul, mod-lt, mul-comm, pow-suc, zero-div, zero-max, zero-min, mod-eq-of-lt, one-mul}
 use lib.Arith.{digits-mod}
 use lib.Pow.{pow-lt, pow-mono, pow-pos}
 use lib.Dec.{eqb, ltb}
-use lib.Bits.{bitAnd, bitOr, and-step, and-shr, or-step, or-shr}
+use lib.Bits.{bitAnd, bitOr, and-step, and-shr, or-step, or-shr, and-le-l}
 use Rattle.logic.specs.Tests.{So, so-eqb, so-false, or-l, or-r, or-cases, so-ltb, ltb-so, eqb↔}
-use Rattle.logic.specs.Sums.{only, only-le}
+use Rattle.logic.specs.Sums.{only, only-le, only-on, only-off}
 use Rattle.logic.specs.Sets.{has, nonempty, narrow, within, with, setOf}
 
 -- ---- digits

@@ -1,21 +1,21 @@
 -- The rows of a counting step, and the known label of each cell (01, "The counting step"; FORMAT 6).
-use Prim.Native.Nat.{ℕ, zero, suc, _-_, _<_}
-use mathlib.Core.Path.{_≡_, refl, ap, subst}
-use mathlib.Core.Logic.{_↔_, inl, inr}
+use Prim.Native.Nat.{ℕ, zero, suc, _-_, _≤_, _<_}
+use mathlib.Core.Path.{_≡_, refl, sym, _∙_, ap, subst}
+use mathlib.Core.Logic.{_↔_, _⊎_, inl, inr}
 use mathlib.Core.Bool.{Bool, true, false, not, _&&_, _||_, false≢true}
 use mathlib.Core.List.{List, [], _∷_}
 use mathlib.Core.Option.{Option, none, some}
 use native.Mathlib.Omega.{arith}
 use lib.Dec.{ltb}
 use lib.ListN.{length, getD}
-use Rattle.logic.specs.Tests.{So, so-and, and-l, and-r, or-l, or-r, or-cases, so-ltb, ltb-so}
+use Rattle.logic.specs.Tests.{So, _⇒_, so-and, and-l, and-r, or-l, or-r, or-cases, so-ltb, ltb-so}
 use Rattle.logic.specs.Bounded.{anyBelow, any-intro, any-elim}
 use Rattle.logic.specs.Lists.{_∈_, at-member}
 use Rattle.logic.specs.Sets.{has}
 use Rattle.counting.specs.Trees.{Side, lower, upper}
 use Rattle.counting.specs.Rows.{Bound, boundAt}
 use Rattle.description.specs.Literals.{Literal, pos, neg, opposite, entryOf, entryOf-opposite, Label, sameLiteral, same-literal, literal-same}
-use Rattle.description.specs.Descriptions.{Entry, top, name, both, every, atLeast, byKind, Description, sameEntry, sameEntry↔}
+use Rattle.description.specs.Descriptions.{Entry, top, name, both, every, atLeast, byKind, Description, ifEvery, sameEntry, sameEntry↔}
 use Rattle.description.specs.Roles.{ancestor}
 use Rattle.description.specs.Acceptance.{EntryOk, Accepted, fields-at}
 

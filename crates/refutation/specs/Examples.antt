@@ -13,7 +13,7 @@ use Rattle.counting.specs.Trees.{lower, upper, Tree, leaf, split, formed, depth
 use Rattle.description.specs.Literals.{Literal, literal, members, adding, labelOf}
 use Rattle.description.specs.Descriptions.{Entry, top, name, both, every, atLeast, Description, sameEntry, isBoth, ifEvery, ifLeast}
 use Rattle.description.specs.Roles.{ancestor, simple}
-use Rattle.description.specs.Acceptance.{entryTest, descriptionTests, Accepted, accepted↔}
+use Rattle.description.specs.Acceptance.{entryTest, descriptionRefusal, descriptionTests, Accepted, accepted↔}
 use Rattle.description.specs.Examples.{Role, under, transitiveUnder, tableOf, lit}
 use Rattle.interpretation.specs.Meaning.{Interpretation}
 use Rattle.interpretation.specs.Models.{Model, Satisfies}

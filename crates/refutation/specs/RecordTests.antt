@@ -1,25 +1,25 @@
 -- The rules of refutations as tests, in the table's order, and that they say what the rules say.
-use Prim.Native.Nat.{ℕ, suc, _*_, _-_, _^_, _≤_, _<_}
-use mathlib.Core.Path.{_≡_, refl, sym, subst}
+use Prim.Native.Nat.{ℕ, zero, suc, _*_, _-_, _^_, _≤_, _<_}
+use mathlib.Core.Path.{_≡_, refl, sym, _∙_, subst}
 use mathlib.Core.Logic.{_↔_, _⊎_, inl, inr, Iff·rfl}
-use mathlib.Core.Bool.{Bool, true, _&&_}
+use mathlib.Core.Bool.{Bool, true, false, _&&_, _||_, false≢true}
 use mathlib.Core.List.{List, [], _∷_, List·Memᴰ·head, List·Memᴰ·tail, List·Memᴰ·cases-cons}
 use mathlib.Core.Option.{Option, none, some}
 use lib.Dec.{eqb, leb, ltb}
 use lib.ListN.{length}
 use Rattle.logic.specs.Tests.{So, _⇒_, and↔, reading}
 use Rattle.logic.specs.Bounded.{allBelow}
-use Rattle.logic.specs.Lists.{_∈_, each, listed}
+use Rattle.logic.specs.Lists.{_∈_, each, each↔, listed}
 use Rattle.logic.specs.Sets.{narrow, within}
 use Rattle.logic.specs.Refusals.{Refusal, unless, unless↔, refuse, refuse↔, refuseFrom, records↔}
-use Rattle.counting.specs.Trees.{formed, depth, ValuesFit}
+use Rattle.counting.specs.Trees.{Tree, formed, depth, ValuesFit, treeTest}
 use Rattle.counting.specs.TreeLaws.{tree↔, fits-all}
-use Rattle.counting.specs.Rows.{Closed, closedTest}
-use Rattle.description.specs.Literals.{Literal, pos, neg, opposite, code, entryOf, members, adding, in-table↔, within-members↔, members-adding, no-literal, plus↔, labelOf, members-labelOf}
+use Rattle.counting.specs.Rows.{limits, Closed, closedTest}
+use Rattle.description.specs.Literals.{Literal, pos, neg, opposite, code, entryOf, Label, members, adding, plus, Within, in-table↔, within-members↔, members-adding, no-literal, plus↔, labelOf, members-labelOf}
 use Rattle.description.specs.Descriptions.{Description, isBoth, isBoth↔}
 use Rattle.description.specs.Acceptance.{Accepted}
-use Rattle.refutation.specs.Cells.{rowOf, isRow, rowsOf, bounds, Known, known, known↔, rows-in, known-in}
-use Rattle.refutation.specs.Records.{Cell, unshown, cited, Counting, Step, contradiction, conjunction, disjunction, byRule, caseSplit, counting, asCounting, WhenCounting, Refutation, recordAt, numberAt, cellAt, openAt, literalAt, FormOk, FormFits, CiteOk, StepOk, inLabel, CellOk, TreeOk, RecordOk, EndOk, Closes, RefutationLimits, StepValuesFit, RefutationFits}
+use Rattle.refutation.specs.Cells.{Row, rowOf, isRow, rowsOf, bounds, Known, known, known↔, rows-in, known-in}
+use Rattle.refutation.specs.Records.{Cell, unshown, cited, Counting, Step, contradiction, conjunction, disjunction, byRule, caseSplit, counting, asCounting, WhenCounting, Record, Refutation, recordAt, numberAt, cellAt, openAt, literalAt, FormOk, FormFits, Formed, CiteOk, StepOk, inLabel, CellOk, TreeOk, RecordOk, EndOk, Closes, RefutationLimits, StepValuesFit, RefutationFits}
 
 -- no limits: lifted refutations
 abbrev pub anyRefutation : RefutationLimits

@@ -1,10 +1,10 @@
 -- Refutations (01: closing lists) and their rules, numbers 10 and 16 to 20 (01, "Evidence", Closing list; FORMAT 5).
 -- The rules know no limits; those of stored refutations stand at the end, apart.
-use Prim.Native.Nat.{ℕ, suc, _-_, _^_, _≤_, _<_}
+use Prim.Native.Nat.{ℕ, zero, suc, _+_, _-_, _^_, _≤_, _<_}
 use mathlib.Core.Path.{_≡_}
 use mathlib.Core.Logic.{_⊎_}
 use mathlib.Core.Bool.{Bool, true, false, _||_}
-use mathlib.Core.List.{List}
+use mathlib.Core.List.{List, [], _∷_}
 use mathlib.Core.Option.{Option, none, some}
 use lib.ListN.{length, getD}
 use Rattle.logic.specs.Tests.{So}

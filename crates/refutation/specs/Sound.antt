@@ -1,28 +1,28 @@
 -- Refutations are sound: no element of any finite model has a record's label, so none has all that is wanted.
 use Prim.Native.Nat.{ℕ, zero, suc, _-_, _^_, _≤_, _<_}
-use mathlib.Core.Path.{_≡_, refl, sym, _∙_, subst}
-use mathlib.Core.Logic.{_⊎_, inl, inr}
-use mathlib.Core.Bool.{Bool, _&&_, false≢true}
+use mathlib.Core.Path.{_≡_, refl, sym, _∙_, ap, subst}
+use mathlib.Core.Logic.{_↔_, _⊎_, inl, inr}
+use mathlib.Core.Bool.{Bool, true, false, not, _&&_, false≢true}
 use mathlib.Core.List.{List}
 use native.Mathlib.Omega.{arith}
 use native.Mathlib.Decide.{decLe}
-use lib.ListN.{length}
+use lib.ListN.{length, getD}
 use Rattle.logic.specs.Tests.{So, decide, so-and, and-l, and-r, or-cases, not-so, so-not}
 use Rattle.logic.specs.Bounded.{any-elim, up-to}
-use Rattle.logic.specs.Lists.{at-member}
+use Rattle.logic.specs.Lists.{_∈_, at-member}
 use Rattle.logic.specs.Sums.{countBelow}
 use Rattle.logic.specs.Sets.{has, setOf}
 use Rattle.logic.specs.SetLaws.{has-setOf, setOf-lt}
-use Rattle.counting.specs.Trees.{Meets}
-use Rattle.counting.specs.Rows.{Fillers}
+use Rattle.counting.specs.Trees.{Side, lower, upper, Meets}
+use Rattle.counting.specs.Rows.{boundAt, Fillers}
 use Rattle.counting.specs.Solutions.{closed-no-fillers}
-use Rattle.description.specs.Literals.{Literal, pos, neg, opposite, entryOf, same-literal, Label, members, plus, Within}
+use Rattle.description.specs.Literals.{Literal, pos, neg, opposite, entryOf, sameLiteral, same-literal, Label, members, plus, Within}
 use Rattle.description.specs.Descriptions.{Entry, top, name, both, every, atLeast, Description}
 use Rattle.description.specs.Acceptance.{Accepted}
 use Rattle.interpretation.specs.Meaning.{Interpretation, truth, holds}
 use Rattle.interpretation.specs.Models.{Model, Satisfies, AllTrue, plus-true, opposite-true, role-up, top-true, both-true, every-true, least-true, every-false}
 use Rattle.refutation.specs.Cells.{Row, positiveRow, negativeRow, rowOf, isRow, rowFrom, rowsOf, rowAt, bounds, cellRole, Known, topmost, qualified, denied, passed, onward, length-rows, length-bounds, bound-at, row-at, rows-in, RowIn}
-use Rattle.refutation.specs.Records.{Cell, unshown, cited, Counting, Step, contradiction, conjunction, disjunction, byRule, caseSplit, counting, Refutation, recordAt, numberAt, cellAt, openAt, isOpen, literalAt, CiteOk, StepOk, inLabel, CellOk, TreeOk, RecordOk, Closes}
+use Rattle.refutation.specs.Records.{Cell, unshown, cited, Counting, Step, contradiction, conjunction, disjunction, byRule, caseSplit, counting, Refutation, recordAt, numberAt, cellAt, openAt, isOpen, literalAt, CiteOk, StepOk, Cites, inLabel, CellOk, TreeOk, RecordOk, Closes}
 
 -- no element of any model has all of L
 abbrev pub Refuted : Description → Label → Type 0
