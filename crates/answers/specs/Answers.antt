@@ -1,12 +1,15 @@
--- Answers, and the number and record that each case stands for (01, "Table of refusals"; FORMAT 8).
+-- Answers, and the word, number and record that each case stands for (01, "Table of refusals" and "Trial descriptions"; FORMAT 8).
 use Prim.Native.Nat.{ℕ}
-use mathlib.Core.Path.{_≡_, refl}
+use mathlib.Core.Path.{_≡_, refl, sym, ap}
 use mathlib.Core.Logic.{_↔_}
 use native.Mathlib.Omega.{arith}
-use mathlib.Core.Option.{Option, none, some}
+use mathlib.Core.Option.{Option, none, some, Option·none-ne-some}
 use Rattle.logic.specs.Refusals.{Refusal, refuse}
 use Rattle.answers.specs.declared.Tested.{Tested}
 use Rattle.answers.specs.declared.Tested.the-variants.{Fine, Refused}
+use Rattle.answers.specs.declared.Verdict as Verdicts
+use Rattle.answers.specs.declared.Written as Writings
+use Rattle.answers.specs.declared.Reading as Readings
 
 -- the paper's number and record of each case; none where nothing refuses
 abbrev pub refusalOf : Tested → Option Refusal
@@ -23,3 +26,41 @@ fine↔ Fine none e = (λ _. refl, λ _. refl)
 fine↔ Fine (some n) e = absurd (let z : _≡_ {A = ℕ} 0 1 = cc in omega arith)
 fine↔ (Refused n r) none e = absurd (let z : _≡_ {A = ℕ} 0 1 = cc in omega arith)
 fine↔ (Refused n r) (some m) e = (λ q. absurd (let z : _≡_ {A = ℕ} 0 1 = cc in omega arith), λ q. absurd (let z : _≡_ {A = ℕ} 0 1 = cc in omega arith))
+
+-- ---- what is told: a word, then the refusal's number and record, or 0 and 0
+pub data Word : Type 0 where
+  REFUSED INHABITED EMPTY WRITTEN HOLDS FAILS : Word
+
+pub record Answer : Type 0 where
+  pub word : Word
+  pub number : ℕ
+  pub place : ℕ
+
+-- the word, unless something refuses
+abbrev pub answer : Word → Option Refusal → Answer
+answer w none = record { word = w; number = 0; place = 0 }
+answer w (some x) = record { word = REFUSED; number = x .number; place = x .place }
+
+-- a word that is not REFUSED is told exactly if nothing refuses
+pub told↔ : (w v : Word) (o : Option Refusal) → (REFUSED ≡ v → ⊥) → (answer w o ≡ answer v none) ↔ ((w ≡ v) × (o ≡ none))
+told↔ w v none h = (λ e. (ap (λ x. x .word) e, refl), λ e. ap (λ x. answer x none) (e .0))
+told↔ w v (some x) h = (λ e. absurd (h (ap (λ y. y .word) e)), λ e. absurd (Option·none-ne-some x (sym (e .1))))
+
+abbrev pub ofVerdict : Verdicts.Verdict → Answer
+ofVerdict Verdicts.the-variants.Inhabited = answer INHABITED none
+ofVerdict Verdicts.the-variants.Empty = answer EMPTY none
+ofVerdict (Verdicts.the-variants.Refused n r) = answer REFUSED (some (record { number = n; place = r }))
+
+abbrev pub ofWritten : Writings.Written → Answer
+ofWritten (Writings.the-variants.Line n) = answer WRITTEN none
+ofWritten (Writings.the-variants.Refused n r) = answer REFUSED (some (record { number = n; place = r }))
+
+-- how many bytes the writer says that it wrote
+abbrev pub lengthOf : Writings.Written → ℕ
+lengthOf (Writings.the-variants.Line n) = n
+lengthOf (Writings.the-variants.Refused n r) = 0
+
+abbrev pub ofReading : Readings.Reading → Answer
+ofReading Readings.the-variants.Holds = answer HOLDS none
+ofReading Readings.the-variants.Fails = answer FAILS none
+ofReading (Readings.the-variants.Refused n r) = answer REFUSED (some (record { number = n; place = r }))

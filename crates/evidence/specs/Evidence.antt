@@ -1,18 +1,19 @@
 -- Evidence in bytes: its head (refusal 9), its records, and the graph that they are (01, "Evidence"; FORMAT 4).
 use Prim.Native.Nat.{ℕ, _+_, _-_, _*_, _/_, _%_, _≤_, _<_}
-use mathlib.Core.Path.{_≡_, refl}
+use mathlib.Core.Path.{_≡_, refl, _∙_, ap}
 use mathlib.Core.Logic.{_↔_, Iff·rfl}
 use mathlib.Core.Bool.{Bool, true, false, cond, _&&_}
-use mathlib.Core.List.{List}
+use mathlib.Core.List.{List, []}
 use lib.Dec.{eqb, leb}
 use borrow.Author.Tests.{ne-eqb, lt-leb, le-leb}
-use lib.ListN.{length, drop}
+use lib.ListN.{length, take, drop, length-drop}
+use native.Mathlib.Omega.{arith}
 use Rattle.logic.specs.Tests.{So, reading}
-use Rattle.logic.specs.Lists.{tabulate}
+use Rattle.logic.specs.Lists.{tabulate, length-tabulate, at-tabulate}
 use Rattle.parts.specs.Numbers.{byteAt, num2}
-use Rattle.parts.specs.Pairs.{partAt, Fills, fills, fills↔}
+use Rattle.parts.specs.Pairs.{offsetAt, lengthAt, endAt, partAt, Fills, fills, fills↔}
 use Rattle.labels.specs.Labels.{labelIn}
-use Rattle.graph.specs.Graphs.{Edge, Node, Graph}
+use Rattle.graph.specs.Graphs.{Edge, Node, Graph, nodeAt}
 use Rattle.evidence.specs.declared.Head.{Head}
 use Rattle.evidence.specs.declared.Head.the-variants.{GraphOf, RefutationOf, Off}
 
@@ -50,6 +51,14 @@ edgeIn es j = record { target = byteAt es (5 * j); mask = num2 es (5 * j + 1); c
 abbrev pub edgesIn : List ℕ → List Edge
 edgesIn es = tabulate (length es / 5) (edgeIn es)
 
+-- the label of record i, where its pair says
+abbrev pub labelOf : List ℕ → ℕ → ℕ
+labelOf s i = labelIn s (offsetAt s 2 i)
+
+-- the bytes behind the label of record i, if the record has a label and lies in the evidence; else none
+unfoldable pub edgesPart : List ℕ → ℕ → List ℕ
+edgesPart s i = cond (leb 8 (lengthAt s 2 i) && leb (endAt s 2 i) (length s)) (take (lengthAt s 2 i - 8) (drop (offsetAt s 2 i + 8) s)) []
+
 -- a label of 8 bytes, then edges
 abbrev pub nodeIn : List ℕ → Node
 nodeIn r = record { label = labelIn r 0; edges = edgesIn (drop 8 r) }
@@ -58,12 +67,29 @@ nodeIn r = record { label = labelIn r 0; edges = edgesIn (drop 8 r) }
 abbrev pub graphIn : List ℕ → Graph
 graphIn s = tabulate (recordCount s) (λ i. nodeIn (recordAt s i))
 
+pub graph-size : (s : List ℕ) → length (graphIn s) ≡ recordCount s
+graph-size s = length-tabulate (recordCount s) (λ i. nodeIn (recordAt s i))
+
+pub node-at : (s : List ℕ) (x : ℕ) → x < recordCount s → nodeAt (graphIn s) x ≡ nodeIn (recordAt s x)
+node-at s x h = at-tabulate (recordCount s) (λ i. nodeIn (recordAt s i)) (record { label = 0; edges = [] }) x h
+
+pub edges-size : (s : List ℕ) (x : ℕ) → x < recordCount s → length (nodeAt (graphIn s) x .edges) ≡ (length (recordAt s x) - 8) / 5
+edges-size s x h = ap (λ N. length (N .edges)) (node-at s x h) ∙ length-tabulate (length (drop 8 (recordAt s x)) / 5) (edgeIn (drop 8 (recordAt s x)))
+    ∙ ap (λ n. n / 5) (length-drop 8 (recordAt s x))
+
 -- ---- 10, of a graph's record: a label, whole edges, at most 32
 abbrev pub mostEdges : ℕ
 mostEdges = 32
 
+abbrev pub NodeForm : ℕ → Type 0
+NodeForm n = (8 ≤ n) × (((n - 8) % 5 ≡ 0) × ((n - 8) / 5 ≤ mostEdges))
+
 unfoldable pub nodeFormTest : ℕ → Bool
 nodeFormTest n = leb 8 n && (eqb ((n - 8) % 5) 0 && leb ((n - 8) / 5) mostEdges)
+
+pub node-form↔ : (n : ℕ) → So (nodeFormTest n) ↔ NodeForm n
+unfolding nodeFormTest
+node-form↔ n = simp reading Iff·rfl
 
 -- ---- laws for the code
 module _ (s : List ℕ) where
@@ -83,6 +109,40 @@ module _ (s : List ℕ) where
   pub head-refutation : headTest s ≡ true → (byteAt s 0 ≡ 1 → ⊥) → (n : ℕ) → n ≡ recordCount s → RefutationOf n ≡ headOf s
   unfolding headOf
   head-refutation e k n q = rw (e, ne-eqb (byteAt s 0) 1 k, q) refl
+
+  -- and what the answer says: a graph with that many records, or none
+  pub head-is-graph : (n : ℕ) → GraphOf n ≡ headOf s → ((headTest s && eqb (byteAt s 0) 1) ≡ true) × (n ≡ recordCount s)
+  unfolding headOf
+  head-is-graph n q = go (headTest s) (eqb (byteAt s 0) 1) q
+    where
+      go : (a b : Bool) → GraphOf n ≡ cond a (cond b (GraphOf (recordCount s)) (RefutationOf (recordCount s))) Off → ((a && b) ≡ true) × (n ≡ recordCount s)
+      go true true e = (refl, cc)
+      go true false e = absurd (let z : _≡_ {A = ℕ} 0 1 = cc in omega arith)
+      go false b e = absurd (let z : _≡_ {A = ℕ} 0 1 = cc in omega arith)
+
+  pub head-no-graph : (h : Head) → h ≡ headOf s → ((n : ℕ) → h ≡ GraphOf n → ⊥) → (headTest s && eqb (byteAt s 0) 1) ≡ false
+  unfolding headOf
+  head-no-graph h q other = go (headTest s) (eqb (byteAt s 0) 1) q
+    where
+      go : (a b : Bool) → h ≡ cond a (cond b (GraphOf (recordCount s)) (RefutationOf (recordCount s))) Off → (a && b) ≡ false
+      go true true e = absurd (other (recordCount s) e)
+      go true false e = refl
+      go false b e = refl
+
+-- the bytes behind a label, where the tests of the record's place pass, and where one fails
+pub edges-inside : (s : List ℕ) (i from n : ℕ) → from ≡ offsetAt s 2 i → n ≡ lengthAt s 2 i → from + 8 ≤ from + n → from + n ≤ length s
+    → take (from + n - (from + 8)) (drop (from + 8) s) ≡ edgesPart s i
+unfolding edgesPart
+edges-inside s i from n p q h k = let l : 8 ≤ lengthAt s 2 i = omega arith in let e : endAt s 2 i ≤ length s = omega arith in
+    let z : from + n - (from + 8) ≡ lengthAt s 2 i - 8 = omega arith in rw (le-leb _ _ l, le-leb _ _ e, z, p) refl
+
+pub edges-none : (s : List ℕ) (i from n : ℕ) → from ≡ offsetAt s 2 i → n ≡ lengthAt s 2 i → from + n < from + 8 → [] ≡ edgesPart s i
+unfolding edgesPart
+edges-none s i from n p q h = let l : lengthAt s 2 i < 8 = omega arith in rw (lt-leb _ _ l) refl
+
+pub edges-past : (s : List ℕ) (i from n : ℕ) → from ≡ offsetAt s 2 i → n ≡ lengthAt s 2 i → from + 8 ≤ from + n → length s < from + n → [] ≡ edgesPart s i
+unfolding edgesPart
+edges-past s i from n p q h k = let l : 8 ≤ lengthAt s 2 i = omega arith in let e : length s < endAt s 2 i = omega arith in rw (le-leb _ _ l, lt-leb _ _ e) refl
 
 -- the form test where the length is known to reach, or not
 pub form-short : (n : ℕ) → n < 8 → false ≡ nodeFormTest n

@@ -1,8 +1,12 @@
 // The head of evidence, and the form of its records.
 ghost use mathlib.Core.Path.{_≡_};
-ghost use Rattle.evidence.specs.Evidence.{headTest, headOf, nodeFormTest};
+ghost use Rattle.labels.specs.Labels.{valueOf};
+ghost use Rattle.evidence.specs.Evidence.{headTest, headOf, nodeFormTest, labelOf, edgesPart};
+use labels::Label;
+use labels::load;
 use parts::byte;
 use parts::pairs_fill;
+use parts::read2;
 
 // What evidence is, with the number of its records.
 pub enum Head {
@@ -44,4 +48,27 @@ pub fn node_form_ok(n: usize) -> bool
     } else {
         ((n - 8) % 5 == 0) & ((n - 8) / 5 <= 32)
     }
+}
+
+// The label of record `i`, read in place.
+pub fn record_label(s: &[u8], i: u8) -> Label
+    ensures { λ r. ⌜ valueOf r ≡ labelOf (now (s .entry)) i ⌝ }
+{
+    load(s, read2(s, 2 + 4 * (i as usize)))
+}
+
+// The bytes behind the label of record `i`; none if it has no label or does not lie in the evidence.
+pub fn record_edges(s: &[u8], i: u8) -> &[u8]
+    ensures { λ r. ⌜ now r ≡ edgesPart (now (s .entry)) i ⌝ }
+{
+    let at = 2 + 4 * (i as usize);
+    let from = read2(s, at);
+    let to = from + read2(s, at + 2);
+    if to < from + 8 {
+        return &s[..0];
+    }
+    if s.len() < to {
+        return &s[..0];
+    }
+    &s[from + 8..to]
 }

@@ -1,8 +1,8 @@
 -- Tests 1 to 8 on the bytes of a description (01, "The description" and "Table of refusals"; FORMAT 2, 3).
 use Prim.Native.Nat.{ℕ, _+_, _*_, _/_, _%_, _≤_, _<_}
-use mathlib.Core.Path.{_≡_, refl, _∙_, ap}
+use mathlib.Core.Path.{_≡_, refl}
 use mathlib.Core.Logic.{_↔_}
-use mathlib.Core.Bool.{Bool, true, false, cond, _&&_}
+use mathlib.Core.Bool.{Bool, _&&_}
 use mathlib.Core.List.{List}
 use mathlib.Core.Option.{Option, none}
 use native.Mathlib.Omega.{arith}
@@ -11,25 +11,18 @@ use lib.ListN.{length}
 use Rattle.logic.specs.Tests.{So, so-leb, leb-so, reading}
 use Rattle.logic.specs.Refusals.{unless, unless↔}
 use Rattle.parts.specs.Numbers.{byteAt}
-use Rattle.parts.specs.Pairs.{endAt, partAt, fills, Fills, fills↔}
+use Rattle.parts.specs.Pairs.{partAt, fills, Fills, fills↔}
 use Rattle.description.specs.Descriptions.{Description, fieldsOf, entryOfFields, sameFields, sameFields↔}
 use Rattle.description.specs.Acceptance.{Accepted, descriptionTests, formed↔}
 use Rattle.tables.specs.Tables.{fieldsAt, describe}
 use Rattle.answers.specs.declared.Tested.{Tested}
 use Rattle.answers.specs.declared.Tested.the-variants.{Fine}
 use Rattle.answers.specs.Answers.{refusalOf, wholly, fine↔}
-use Rattle.intake.specs.declared.Ends.{Ends}
-use Rattle.intake.specs.declared.Directory.{Directory}
-use Rattle.intake.specs.declared.Directory.the-variants.{Parts, Off}
 
 -- ---- 1: the directory
 -- three pairs at 0 fill the description from 12
 abbrev pub directoryTest : List ℕ → Bool
 directoryTest d = fills d 0 3 12
-
--- where the parts end, if they do
-unfoldable pub directoryOf : List ℕ → Directory
-directoryOf d = cond (directoryTest d) (Parts (record { roles = endAt d 0 0; concepts = endAt d 0 1; query = endAt d 0 2 })) Off
 
 abbrev pub rolesPart : List ℕ → List ℕ
 rolesPart d = partAt d 0 0
@@ -79,6 +72,16 @@ entryForm cs e = sameFields (fieldsAt cs e) (fieldsOf (entryOfFields (fieldsAt c
 -- ---- all tests
 unfoldable pub partsTest : List ℕ → List ℕ → List ℕ → Option ℕ
 partsTest rs cs qs = unless (sizesTest rs cs qs) 2 (descriptionTests (roleForm rs) (entryForm cs) (describe rs cs qs))
+
+-- parts that 2 to 8 accept
+abbrev pub AcceptedParts : List ℕ → List ℕ → List ℕ → Type 0
+AcceptedParts rs cs qs = (length rs / 3 ≤ mostRoles) × (length cs / 6 ≤ mostEntries) × Accepted (describe rs cs qs)
+
+pub parts-accepted : (rs cs qs : List ℕ) → partsTest rs cs qs ≡ none → AcceptedParts rs cs qs
+unfolding partsTest sizesTest
+parts-accepted rs cs qs e =
+    let w = unless↔ (sizesTest rs cs qs) 2 (descriptionTests (roleForm rs) (entryForm cs) (describe rs cs qs)) .0 e in let t = simp reading at (w .0) in
+    (omega arith, omega arith, formed↔ (roleForm rs) (entryForm cs) (describe rs cs qs) .0 (omega arith, (omega arith, w .1)) .0)
 
 unfoldable pub bytesTest : List ℕ → Option ℕ
 bytesTest d = unless (directoryTest d) 1 (partsTest (rolesPart d) (conceptsPart d) (queryPart d))
@@ -131,33 +134,3 @@ pub sizes-read : (rs cs qs : List ℕ) (x y : Bool) → x ≡ recordsTest 3 most
     → (x && (y && (leb 1 (length qs) && leb (length qs) 17))) ≡ sizesTest rs cs qs
 unfolding sizesTest
 sizes-read rs cs qs x y p q = rw (p, q) refl
-
-module _ (d : List ℕ) where
-  pub directory-parts : (a b c : ℕ) → directoryTest d ≡ true → a ≡ endAt d 0 0 → b ≡ endAt d 0 1 → c ≡ endAt d 0 2
-      → Parts (record { roles = a; concepts = b; query = c }) ≡ directoryOf d
-  unfolding directoryOf
-  directory-parts a b c f p q r = rw (f, p, q, r) refl
-
-  pub directory-off : directoryTest d ≡ false → Off ≡ directoryOf d
-  unfolding directoryOf
-  directory-off f = rw f refl
-
-  -- the parts of a description whose pairs fill it
-  pub directory-inside : (e : Ends) → Parts e ≡ directoryOf d
-      → So (directoryTest d) × (e .roles ≡ endAt d 0 0) × (e .concepts ≡ endAt d 0 1) × (e .query ≡ endAt d 0 2)
-      × (12 ≤ e .roles) × (e .roles ≤ e .concepts) × (e .concepts ≤ e .query) × (e .query ≡ length d)
-  unfolding directoryOf
-  directory-inside e q = go (directoryTest d) refl q
-    where
-      ends : Ends
-      ends = record { roles = endAt d 0 0; concepts = endAt d 0 1; query = endAt d 0 2 }
-
-      go : (b : Bool) → directoryTest d ≡ b → Parts e ≡ cond b (Parts ends) Off
-          → So (directoryTest d) × (e .roles ≡ endAt d 0 0) × (e .concepts ≡ endAt d 0 1) × (e .query ≡ endAt d 0 2)
-          × (12 ≤ e .roles) × (e .roles ≤ e .concepts) × (e .concepts ≤ e .query) × (e .query ≡ length d)
-      go true f p =
-          let same : e ≡ ends = cc in
-          let F = fills↔ d 0 3 12 .0 f in
-          let a = ap (λ x. x .roles) same in let b = ap (λ x. x .concepts) same in let c = ap (λ x. x .query) same in
-          (f, a, b, c, omega (arith, a, F .1 .0 0 (omega arith)), omega (arith, a, b, F .1 .0 1 (omega arith)), omega (arith, b, c, F .1 .0 2 (omega arith)), c ∙ F .1 .1)
-      go false f p = absurd (let z : _≡_ {A = ℕ} 0 1 = cc in omega arith)

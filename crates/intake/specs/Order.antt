@@ -1,21 +1,14 @@
 -- The answers of tests 2 to 8 in their order, for the code that stops at the first that fails.
 use Prim.Native.Nat.{ℕ}
 use mathlib.Core.Path.{_≡_, refl}
-use mathlib.Core.Bool.{Bool, true, false}
+use mathlib.Core.Bool.{true, false}
 use mathlib.Core.List.{List}
 use mathlib.Core.Option.{Option}
-use lib.ListN.{take, drop}
-use Prim.Native.Nat.{_-_}
-use mathlib.Core.Path.{sym, _∙_}
-use native.Mathlib.Omega.{arith}
 use Rattle.logic.specs.Refusals.{Refusal}
-use Rattle.parts.specs.Pairs.{offsetAt, lengthAt, endAt, partAt, fills↔}
 use Rattle.answers.specs.declared.Tested.the-variants.{Fine, Refused}
 use Rattle.answers.specs.Answers.{refusalOf, wholly}
-use Rattle.intake.specs.Intake.{directoryTest, directoryOf, directory-inside, sizesTest, partsTest, bytesTest}
+use Rattle.intake.specs.Intake.{directoryTest, rolesPart, conceptsPart, queryPart, sizesTest, partsTest, bytesTest}
 use Rattle.intake.specs.Steps.{rolesCode, entriesCode, simplesCode, distinctsCode, everysCode, queryCode, laterTest, stepsTest}
-use Rattle.intake.specs.declared.Ends.{Ends}
-use Rattle.intake.specs.declared.Directory.the-variants.{Parts, Off}
 
 module _ (rs cs qs a : List ℕ) (complex : ℕ) where
   -- what tests 5 to 8 answer, and all
@@ -61,27 +54,11 @@ module _ (rs cs qs a : List ℕ) (complex : ℕ) where
   unfolding laterTest
   stops-nowhere e5 e6 e7 e8 = rw (e5, e6, e7, e8) refl
 
--- 1, then the parts, handed on from one end to the next
-module _ (d : List ℕ) where
-  pub stops-1 : Off ≡ directoryOf d → refusalOf (Refused 1 0) ≡ wholly (bytesTest d)
-  unfolding directoryOf bytesTest
-  stops-1 q = go (directoryTest d) refl
-    where
-      go : (b : Bool) → directoryTest d ≡ b → refusalOf (Refused 1 0) ≡ wholly (bytesTest d)
-      go false f = rw f refl
-      go true f = absurd (let z : Off ≡ Parts _ = rw f at q in let w : _≡_ {A = ℕ} 0 1 = cc in omega arith)
+-- 1, then the parts, each from its own offset
+pub stops-1 : (d : List ℕ) → directoryTest d ≡ false → refusalOf (Refused 1 0) ≡ wholly (bytesTest d)
+unfolding bytesTest
+stops-1 d e = rw e refl
 
-  own-part : (i from to : ℕ) → offsetAt d 0 i ≡ from → to ≡ endAt d 0 i → take (to - from) (drop from d) ≡ partAt d 0 i
-  own-part i from to o e = let n : to - from ≡ lengthAt d 0 i = omega (arith, o, e) in rw (n, o) refl
-
-  pub parts-on : (e : Ends) → Parts e ≡ directoryOf d
-      → wholly (partsTest (take (e .roles - 12) (drop 12 d)) (take (e .concepts - e .roles) (drop (e .roles) d)) (take (e .query - e .concepts) (drop (e .concepts) d)))
-      ≡ wholly (bytesTest d)
-  unfolding bytesTest
-  parts-on e q = let w = directory-inside d e q in let F = fills↔ d 0 3 12 .0 (w .0) .1 .0 in
-      rw (
-        w .0,
-        own-part 0 12 (e .roles) (F 0 (omega arith)) (w .1),
-        own-part 1 (e .roles) (e .concepts) (F 1 (omega arith) ∙ sym (w .1)) (w .2),
-        own-part 2 (e .concepts) (e .query) (F 2 (omega arith) ∙ sym (w .2)) (w .3),
-      ) refl
+pub parts-on : (d rs cs qs : List ℕ) → directoryTest d ≡ true → rs ≡ rolesPart d → cs ≡ conceptsPart d → qs ≡ queryPart d → wholly (partsTest rs cs qs) ≡ wholly (bytesTest d)
+unfolding bytesTest
+parts-on d rs cs qs e p q r = rw (e, p, q, r) refl

@@ -23,7 +23,7 @@ use Rattle.tables.specs.declared.Concept.{Concept}
 use Rattle.tables.specs.declared.Concept.the-variants.{Top, Name, Both, Every, AtLeast}
 use Rattle.tables.specs.declared.Fields as Code
 use Rattle.tables.specs.Tables.{fieldsAt, describe, fieldsTest, fields↔}
-use Rattle.roles.specs.Ancestors.{complexMask, AncestorsOf, ancestor-masks}
+use Rattle.roles.specs.Ancestors.{complexMask, AncestorsOf, ancestor-masks, aboveTransitive, roleCount, not-simple}
 use Rattle.intake.specs.Intake.{sizesTest, sizes-few, entryForm, partsTest}
 
 -- 3, of one role: its transitive byte, and its parents
@@ -186,6 +186,13 @@ steps-are rs cs qs a complex anc t = unless-then (sizesTest rs cs qs) (sizesTest
 
     n : ℕ
     n = length cs / 6
+
+-- with the roles that are not simple from the same table of ancestors
+abbrev pub tablesTest : List ℕ → List ℕ → List ℕ → List ℕ → Option ℕ
+tablesTest rs cs qs a = stepsTest rs cs qs a (aboveTransitive rs a (roleCount rs))
+
+pub tables-are : (rs cs qs a : List ℕ) → AncestorsOf rs a → tablesTest rs cs qs a ≡ partsTest rs cs qs
+tables-are rs cs qs a anc = steps-are rs cs qs a _ anc (λ few. not-simple rs a cs qs anc few)
 
 -- ---- laws for the code
 -- "every T l", by kind, role and first literal

@@ -12,13 +12,13 @@ ghost use Rattle.description.specs.Literals.{literal};
 ghost use Rattle.description.specs.Descriptions.{every, entryOfFields, sameEntry};
 ghost use Rattle.tables.specs.Tables.{fieldsAt, fieldsTest};
 ghost use Rattle.answers.specs.Answers.{refusalOf, wholly};
-ghost use Rattle.intake.specs.Intake.{directoryOf, sizesTest, partsTest, bytesTest};
-ghost use Rattle.intake.specs.Steps.{laterTest, stepsTest, roleAt, simpleAt, twinAt, everyThere, everyBelowAt, everyAt};
+ghost use Rattle.intake.specs.Intake.{directoryTest, sizesTest, partsTest, bytesTest};
+ghost use Rattle.intake.specs.Steps.{laterTest, stepsTest, tablesTest, roleAt, simpleAt, twinAt, everyThere, everyBelowAt, everyAt};
 use answers::Tested;
 use parts::byte;
 use parts::mask2;
 use parts::pairs_fill;
-use parts::read2;
+use parts::part;
 use roles::ancestors;
 use roles::complex_roles;
 use roles::fits16;
@@ -30,30 +30,11 @@ use tables::concept_at;
 use tables::entry_ok;
 use tables::fields_at;
 
-// Where the three parts end; the first begins at 12, each next at the end of the one before.
-struct Ends {
-    pub roles: usize,
-    pub concepts: usize,
-    pub query: usize,
-}
-
-enum Directory {
-    Parts(Ends),
-    Off,
-}
-
-fn read_directory(d: &[u8]) -> Directory
-    ensures { λ r. ⌜ r ≡ directoryOf (now (d .entry)) ⌝ }
+// Test 1.
+pub fn directory_ok(d: &[u8]) -> bool
+    ensures { λ r. ⌜ r ≡ directoryTest (now (d .entry)) ⌝ }
 {
-    if pairs_fill(d, 0, 3, 12) {
-        Directory::Parts(Ends {
-            roles: read2(d, 0) + read2(d, 2),
-            concepts: read2(d, 4) + read2(d, 6),
-            query: read2(d, 8) + read2(d, 10),
-        })
-    } else {
-        Directory::Off
-    }
+    pairs_fill(d, 0, 3, 12)
 }
 
 // A part of `len` bytes: whole records of `size` bytes, at least one, within `most` bytes.
@@ -337,30 +318,26 @@ fn test_steps(rs: &[u8], cs: &[u8], qs: &[u8], a: [u16; 16], complex: u16) -> Te
     test_later(rs, cs, qs, a, complex)
 }
 
-// Tests 2 to 8 of the three parts. The ancestors are computed once, for parts of any length.
+// Tests 2 to 8 of the three parts, if `a` holds the ancestors of each role.
+pub fn test_tables(rs: &[u8], cs: &[u8], qs: &[u8], a: [u16; 16]) -> Tested
+    ensures { λ r. ⌜ refusalOf r ≡ wholly (tablesTest (now (rs .entry)) (now (cs .entry)) (now (qs .entry)) a) ⌝ }
+{
+    test_steps(rs, cs, qs, a, complex_roles(rs, a))
+}
+
+// Tests 2 to 8 of the three parts.
 fn test_parts(rs: &[u8], cs: &[u8], qs: &[u8]) -> Tested
     ensures { λ r. ⌜ refusalOf r ≡ wholly (partsTest (now (rs .entry)) (now (cs .entry)) (now (qs .entry))) ⌝ }
 {
-    let a = ancestors(rs);
-    test_steps(rs, cs, qs, a, complex_roles(rs, a))
+    test_tables(rs, cs, qs, ancestors(rs))
 }
 
 // Tests 1 to 8 of a description.
 pub fn test_description(d: &[u8]) -> Tested
     ensures { λ r. ⌜ refusalOf r ≡ wholly (bytesTest (now (d .entry))) ⌝ }
 {
-    let directory = read_directory(d);
-    match directory {
-        Directory::Parts(e) => {
-            let roles_end = e.roles;
-            let concepts_end = e.concepts;
-            let query_end = e.query;
-            test_parts(
-                &d[12..roles_end],
-                &d[roles_end..concepts_end],
-                &d[concepts_end..query_end],
-            )
-        }
-        Directory::Off => Tested::Refused(1, 0),
+    if !directory_ok(d) {
+        return Tested::Refused(1, 0);
     }
+    test_parts(part(d, 0, 0), part(d, 0, 1), part(d, 0, 2))
 }

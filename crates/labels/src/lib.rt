@@ -11,7 +11,7 @@ pub struct Label {
 }
 
 // The four bytes at `at` as a word, high byte first; bytes past the end count as 0.
-fn word(s: &[u8], at: usize) -> u32
+pub fn word(s: &[u8], at: usize) -> u32
     ensures { λ r. ⌜ r ≡ num4 (now (s .entry)) at ⌝ }
 {
     if at < s.len() {

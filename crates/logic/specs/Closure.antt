@@ -1,6 +1,6 @@
 -- The closure of a relation, as an executable test: Warshall's, with stops below k allowed.
 use Prim.Native.Nat.{ℕ, zero, suc, _≤_, _<_}
-use mathlib.Core.Path.{_≡_, refl}
+use mathlib.Core.Path.{_≡_, refl, ap₂}
 use mathlib.Core.Logic.{_↔_, _⊎_, inl, inr}
 use mathlib.Core.Bool.{Bool, _&&_, _||_}
 use native.Mathlib.Omega.{arith}
@@ -93,3 +93,10 @@ closure-own k R x y = same-test _ _
   where
     own : ℕ → ℕ → Bool
     own i j = eqb i j || R i j
+
+-- relations that agree below n have closures that do
+pub closure-same : (k n : ℕ) (R S : ℕ → ℕ → Bool) → k ≤ n → ((x y : ℕ) → x < n → y < n → R x y ≡ S x y) → (x y : ℕ) → x < n → y < n → closure k R x y ≡ closure k S x y
+unfolding closure
+closure-same zero n R S h e x y hx hy = e x y hx hy
+closure-same (suc k) n R S h e x y hx hy = let same = closure-same k n R S (omega arith) e in
+    ap₂ _||_ (same x y hx hy) (ap₂ _&&_ (same x k hx (omega arith)) (same k y (omega arith) hy))

@@ -16,7 +16,7 @@ use tables::EntryNo;
 use tables::concept_at;
 
 // The opposite of a literal.
-fn opposite(l: u8) -> u8
+pub fn opposite(l: u8) -> u8
     ensures { λ r. ⌜ r ≡ opposed l ⌝ }
 {
     if l % 2 == 0 { l + 1 } else { l - 1 }
@@ -69,7 +69,7 @@ fn consistent(x: Label, n: u8) -> bool
 }
 
 // The number of entries of the part `cs`, or 32 if there are more.
-fn entry_count(cs: &[u8]) -> u8
+pub fn entry_count(cs: &[u8]) -> u8
     ensures { λ r. ⌜ (r ≡ entryCount (now (cs .entry))) × (r ≤ 32) ⌝ }
 {
     up_to(32, cs.len() / 6)

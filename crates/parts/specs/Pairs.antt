@@ -1,16 +1,17 @@
 -- Pairs (offset, length) that fill a slice (FORMAT 1): a description's three, evidence's n.
 use Prim.Native.Nat.{ℕ, zero, suc, _+_, _-_, _*_, _≤_, _<_}
-use mathlib.Core.Path.{_≡_, refl, subst}
+use mathlib.Core.Path.{_≡_, refl, sym, _∙_, subst}
 use mathlib.Core.Logic.{_↔_}
 use mathlib.Core.Bool.{Bool, false, _&&_}
-use mathlib.Core.List.{List}
+use mathlib.Core.List.{List, []}
 use native.Mathlib.Omega.{arith}
 use native.Mathlib.Decide.{decLt}
-use native.Mathlib.Nat.{add-zero, sub-zero}
+use native.Mathlib.Nat.{add-zero, sub-zero, add-sub-cancel-left}
 use native.Mathlib.Numerals.{add-one}
 use borrow.Author.Tests.{lt-leb, le-leb, eq-eqb, ne-eqb}
 use lib.Dec.{eqb, leb}
-use lib.ListN.{length, take, drop}
+use lib.ListN.{length, take, drop, length-drop, drop-of-length-le}
+use lib.Seq.{take-nil, take-all}
 use Rattle.logic.specs.Tests.{So, so-and, and-l, and-r, so-eqb, eqb↔, reading}
 use Rattle.parts.specs.Numbers.{num2}
 
@@ -104,3 +105,15 @@ module _ (s : List ℕ) (at n i e : ℕ) where
   pub fills-end : n ≤ i → fillsFrom s at (n - i) i e ≡ eqb e (length s)
   unfolding fillsFrom
   fills-end h = let z : n - i ≡ 0 = omega arith in rw z refl
+
+-- ---- laws for the function that hands a part on
+-- the part of a pair, read where the slice ends before it, in it, or after it
+module _ (s : List ℕ) (at i from n : ℕ) (p : from ≡ offsetAt s at i) (q : n ≡ lengthAt s at i) where
+  pub part-past : length s < from → [] ≡ partAt s at i
+  part-past h = rw (← p, ← q, drop-of-length-le s (let z : length s ≤ from = omega arith in z)) (sym (take-nil n))
+
+  pub part-cut : from ≤ length s → length s - from < n → take (length s - from) (drop from s) ≡ partAt s at i
+  part-cut h k = let l = length-drop from s in rw (← p, ← q) (take-all (length s - from) (drop from s) (omega arith) ∙ sym (take-all n (drop from s) (omega arith)))
+
+  pub part-whole : take (from + n - from) (drop from s) ≡ partAt s at i
+  part-whole = rw (← p, ← q, add-sub-cancel-left) refl

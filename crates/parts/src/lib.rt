@@ -2,7 +2,7 @@
 ghost use mathlib.Core.Path.{_≡_};
 ghost use Prim.Native.Nat.{_<_, _≤_};
 ghost use Rattle.parts.specs.Numbers.{byteAt, num2, upTo};
-ghost use Rattle.parts.specs.Pairs.{fills};
+ghost use Rattle.parts.specs.Pairs.{fills, partAt};
 
 // A byte as a number of 16 bits.
 fn wide(x: u8) -> u16
@@ -66,4 +66,20 @@ pub fn pairs_fill(s: &[u8], at: u8, count: u8, first: u16) -> bool
         i += 1;
     }
     next == s.len()
+}
+
+// The part that pair `i` of the pairs at `at` names; what lies past the end is left out.
+pub fn part(s: &[u8], at: u8, i: u8) -> &[u8]
+    ensures { λ r. ⌜ now r ≡ partAt (now (s .entry)) at i ⌝ }
+{
+    let pair = (at as usize) + 4 * (i as usize);
+    let from = read2(s, pair);
+    let n = read2(s, pair + 2);
+    if s.len() < from {
+        return &s[..0];
+    }
+    if s.len() - from < n {
+        return &s[from..];
+    }
+    &s[from..from + n]
 }

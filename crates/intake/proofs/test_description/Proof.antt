@@ -1,76 +1,44 @@
 use mathlib.Core.Path.{_∙_, sym}
-use native.Mathlib.Omega.{arith}
-use Rattle.intake.specs.Intake.{directory-inside}
+use borrow.Author.Tests.{not-true, not-false}
 use Rattle.intake.specs.Order.{stops-1, parts-on}
 use borrow.Author.Needs.{needs}
 use Rattle.intake.proofs.test_description.Statement.{statement}
 use Rattle.intake.proofs.test_description.Tie as tie
 use Rattle.intake.proofs.test_description.Reads as reads
 use Rattle.intake.proofs.test_description.Lts as lts
-use Rattle.intake.proofs.read_directory.Reads as read-directory-reads
+use Rattle.intake.proofs.directory_ok.Reads as directory-ok-reads
 use Rattle.intake.proofs.test_parts.Reads as test-parts-reads
+use Rattle.parts.proofs.part.Reads as part-reads
 
-read-directory-requires : tie.Need-read-directory-requires
-read-directory-requires c κs = search needs
+directory-ok-requires : tie.Need-directory-ok-requires
+directory-ok-requires c κs = search needs
 
-enum-known-directory : tie.Need-enum-known-directory
-enum-known-directory c = search needs
+returns : tie.Need-returns
+returns c = stops-1 (c .before .before .before .args .d .now) (sym (c .before .directory-ok .ensures) ∙ not-true _ (c .if1 .taken))
 
-sub-test-parts : tie.Need-sub-test-parts
-sub-test-parts c = let l = directory-inside (c .before .before .before .before .before .args .d .now) (c .before .directory .given .0 .0) (sym (c .before .directory .given .1) ∙ c .before .before .before .read-directory .ensures) in omega arith
+part-requires : tie.Need-part-requires
+part-requires c κs = search needs
 
-part-test-parts-start : tie.Need-part-test-parts-start
-part-test-parts-start c = let l = directory-inside (c .before .before .before .before .before .args .d .now) (c .before .directory .given .0 .0) (sym (c .before .directory .given .1) ∙ c .before .before .before .read-directory .ensures) in omega arith
+part-requires-2 : tie.Need-part-requires-2
+part-requires-2 c κs = search needs
 
-part-test-parts-end : tie.Need-part-test-parts-end
-part-test-parts-end c = let l = directory-inside (c .before .before .before .before .before .args .d .now) (c .before .directory .given .0 .0) (sym (c .before .directory .given .1) ∙ c .before .before .before .read-directory .ensures) in omega arith
-
-sub-test-parts-2 : tie.Need-sub-test-parts-2
-sub-test-parts-2 c = let l = directory-inside (c .before .before .before .before .before .before .args .d .now) (c .before .before .directory .given .0 .0) (sym (c .before .before .directory .given .1) ∙ c .before .before .before .before .read-directory .ensures) in omega arith
-
-part-test-parts-start-2 : tie.Need-part-test-parts-start-2
-part-test-parts-start-2 c = let l = directory-inside (c .before .before .before .before .before .before .args .d .now) (c .before .before .directory .given .0 .0) (sym (c .before .before .directory .given .1) ∙ c .before .before .before .before .read-directory .ensures) in omega arith
-
-part-test-parts-end-2 : tie.Need-part-test-parts-end-2
-part-test-parts-end-2 c = let l = directory-inside (c .before .before .before .before .before .before .args .d .now) (c .before .before .directory .given .0 .0) (sym (c .before .before .directory .given .1) ∙ c .before .before .before .before .read-directory .ensures) in omega arith
-
-sub-test-parts-3 : tie.Need-sub-test-parts-3
-sub-test-parts-3 c = let l = directory-inside (c .before .before .before .before .before .before .before .args .d .now) (c .before .before .before .directory .given .0 .0) (sym (c .before .before .before .directory .given .1) ∙ c .before .before .before .before .before .read-directory .ensures) in omega arith
-
-part-test-parts-start-3 : tie.Need-part-test-parts-start-3
-part-test-parts-start-3 c = let l = directory-inside (c .before .before .before .before .before .before .before .args .d .now) (c .before .before .before .directory .given .0 .0) (sym (c .before .before .before .directory .given .1) ∙ c .before .before .before .before .before .read-directory .ensures) in omega arith
-
-part-test-parts-end-3 : tie.Need-part-test-parts-end-3
-part-test-parts-end-3 c = let l = directory-inside (c .before .before .before .before .before .before .before .args .d .now) (c .before .before .before .directory .given .0 .0) (sym (c .before .before .before .directory .given .1) ∙ c .before .before .before .before .before .read-directory .ensures) in omega arith
+part-requires-3 : tie.Need-part-requires-3
+part-requires-3 c κs = search needs
 
 test-parts-requires : tie.Need-test-parts-requires
 test-parts-requires c κs = search needs
 
-enum-told : tie.Need-enum-told
-enum-told c = search needs
-
-returns : tie.Need-returns
-returns c = c .test-parts .ensures ∙ parts-on (c .before .before .before .before .before .before .before .before .before .args .d .now) (c .before .before .before .before .before .directory .given .0 .0) (sym (c .before .before .before .before .before .directory .given .1) ∙ c .before .before .before .before .before .before .before .read-directory .ensures)
-
 returns-2 : tie.Need-returns-2
-returns-2 c = stops-1 (c .before .before .before .before .args .d .now) (sym (c .enum-told .given .1) ∙ c .before .before .read-directory .ensures)
+returns-2 c = c .test-parts .ensures ∙ parts-on (c .before .before .before .before .before .before .before .args .d .now) _ _ _ (sym (c .before .before .before .before .before .directory-ok .ensures) ∙ not-false _ (c .before .before .before .before .if1 .left)) (c .before .before .before .part .ensures) (c .before .before .part2 .ensures) (c .before .part3 .ensures)
 
 pub test-description-spec : {M : Type 1} → statement M
 test-description-spec =
     tie.close
     (tie.spec
-    read-directory-requires
-    enum-known-directory
-    sub-test-parts
-    part-test-parts-start
-    part-test-parts-end
-    sub-test-parts-2
-    part-test-parts-start-2
-    part-test-parts-end-2
-    sub-test-parts-3
-    part-test-parts-start-3
-    part-test-parts-end-3
-    test-parts-requires
-    enum-told
+    directory-ok-requires
     returns
+    part-requires
+    part-requires-2
+    part-requires-3
+    test-parts-requires
     returns-2)

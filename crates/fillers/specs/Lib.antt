@@ -1,0 +1,2 @@
+pub mod FillerSteps
+pub mod FillerLaws

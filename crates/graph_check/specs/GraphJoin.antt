@@ -1,0 +1,112 @@
+-- For an accepted description, the tests that the code makes are those of GraphEvidence.
+use Prim.Native.Nat.{ℕ, zero, suc, _/_, _≤_, _<_}
+use mathlib.Core.Path.{_≡_, refl, sym, _∙_, ap, ap₂}
+use mathlib.Core.Bool.{true, false}
+use mathlib.Core.List.{List}
+use mathlib.Core.Option.{Option, none}
+use native.Mathlib.Omega.{arith}
+use borrow.Author.Tests.{ne-eqb}
+use lib.Dec.{eqb}
+use lib.ListN.{length}
+use Rattle.logic.specs.Tests.{and-l}
+use Rattle.logic.specs.Refusals.{Refusal, unless, unless↔, unless-then, refuse, refuseFrom}
+use Rattle.logic.specs.Bounded.{allBelow}
+use Rattle.logic.specs.Lists.{each}
+use Rattle.parts.specs.Numbers.{upTo, up-to-all}
+use Rattle.description.specs.Literals.{Literal, members}
+use Rattle.description.specs.Descriptions.{Description}
+use Rattle.description.specs.Roles.{anc-in}
+use Rattle.description.specs.Acceptance.{Accepted}
+use Rattle.tables.specs.Tables.{describe}
+use Rattle.roles.specs.Ancestors.{AncestorsOf}
+use Rattle.intake.specs.Intake.{directoryTest, rolesPart, conceptsPart, queryPart, partsTest, parts-accepted, bytesTest}
+use Rattle.intake.specs.Steps.{tables-are}
+use Rattle.evidence.specs.Evidence.{recordCount, HeadOk, headTest, head↔, recordAt, edgesIn, edgesPart, graphIn, graph-size, NodeForm, nodeFormTest, node-form↔, labelOf}
+use Rattle.evidence.specs.InPlace.{record-length, label-there, edges-there, edges-few}
+use Rattle.graph.specs.Graphs.{labelAt, wantedAt}
+use Rattle.graph.specs.GraphTests.{storedGraph, labelTest, bothTest, edgeTest, nodeRefusal}
+use Rattle.nodes.specs.NodeSteps.{entryCount, labelCode, labelTestOf, isFirst, label-is, bothAt, both-is}
+use Rattle.edges.specs.EdgeSteps.{edgesCode, edges-are}
+use Rattle.fillers.specs.FillerSteps.{}
+use Rattle.fillers.specs.FillerLaws.{everys-are, counts-are}
+use Rattle.logic.specs.Refusals.{refuse-then, records-later, records-cong}
+use Rattle.graph_check.specs.GraphEvidence.{wanted, graphHead, formAt, nodeAtTest, graphTests, graphRefused, graphAnswer}
+use Rattle.answers.specs.declared.Verdict.the-variants.{Refused}
+use Rattle.answers.specs.Answers.{Answer, answer, INHABITED, ofVerdict}
+use Rattle.graph_check.specs.GraphSteps.{formOf, nodeCode, recordCode, recordsCode, graphCode, tablesCode}
+
+first-is : (x : ℕ) → eqb x 0 ≡ isFirst x
+first-is zero = refl
+first-is (suc x) = ne-eqb (suc x) 0 (λ e. omega arith)
+
+module _ (rs cs qs a : List ℕ) (anc : AncestorsOf rs a) (few : length rs / 3 ≤ 16) (table : length cs / 6 ≤ 32) (acc : Accepted (describe rs cs qs))
+    (s : List ℕ) (head : HeadOk s) where
+  abbrev D : Description
+  D = describe rs cs qs
+
+  abbrev n : ℕ
+  n = recordCount s
+
+  form-is : (x : ℕ) → x < n → formOf s x ≡ formAt s x
+  form-is x h = ap (λ k. unless (nodeFormTest k) 10 none) (sym (record-length s head x h))
+
+  module _ (formed : (x : ℕ) → x < n → NodeForm (length (recordAt s x))) where
+    labels : (y : ℕ) → y < n → (l : Literal) → labelAt (graphIn s) y l ≡ members (labelOf s y) l
+    labels y h l = ap (λ N. members N l) (label-there s head formed y h)
+
+    node-is : (x : ℕ) → x < n → recordCode rs cs qs a s n x ≡ nodeAtTest D s x
+    unfolding nodeCode nodeRefusal
+    node-is x h = rw (label-there s head formed x h, edges-there s head formed x h, graph-size s) (
+        unless-then _ _ 11 _ _ label (λ _.
+        unless-then _ _ 12 _ _ both (λ _.
+        unless-then _ _ 13 _ _ edges (λ pass. let p = sym edges ∙ pass in
+        unless-then _ _ 14 _ _ (everys-are rs cs qs s table n (labelAt (graphIn s)) labels (labelOf s x) (edgesPart s x) (edges-few s head formed x h) p a anc few acc) (λ _.
+        unless-then _ _ 15 _ _ (counts-are rs cs qs s table n (labelAt (graphIn s)) labels (labelOf s x) (edgesPart s x) (edges-few s head formed x h) p) (λ _. refl))))))
+      where
+        label : labelTestOf cs qs (labelOf s x) (eqb x 0) ≡ labelTest D (wantedAt (wanted D) x) (labelOf s x)
+        label = ap₂ (λ k b. labelCode qs k (labelOf s x) b) (up-to-all 32 (length cs / 6) table) (first-is x) ∙ label-is rs cs qs (labelOf s x) x
+
+        both : allBelow (entryCount cs) (bothAt cs (labelOf s x)) ≡ bothTest D (members (labelOf s x))
+        both = ap (λ k. allBelow k (bothAt cs (labelOf s x))) (up-to-all 32 (length cs / 6) table) ∙ both-is rs cs qs (labelOf s x)
+
+        edges : edgesCode a (upTo 16 (length rs / 3)) n (edgesPart s x) ≡ each (edgesIn (edgesPart s x)) (edgeTest storedGraph D n)
+        edges = ap (λ k. edgesCode a k n (edgesPart s x)) (up-to-all 16 (length rs / 3) few)
+            ∙ edges-are rs cs qs a anc few (λ r q. anc-in D (acc .parents-in) r q) n (edgesPart s x) (edges-few s head formed x h)
+
+    records-are : refuseFrom (recordCode rs cs qs a s n) n 0 none ≡ refuseFrom (nodeAtTest D s) n 0 none
+    records-are = records-cong (recordCode rs cs qs a s n) (nodeAtTest D s) n 0 none (λ x _ h. node-is x (omega arith))
+
+  forms-are : recordsCode rs cs qs a s n ≡ refuseFrom (formAt s) n 0 (refuseFrom (nodeAtTest D s) n 0 none)
+  unfolding recordsCode
+  forms-are = records-cong (formOf s) (formAt s) n 0 _ (λ x _ h. form-is x (omega arith))
+      ∙ records-later (formAt s) n 0 _ _ (λ pass. records-are (λ x h. node-form↔ _ .0 (unless↔ _ 10 none .0 (pass x (omega arith) (omega arith)) .0)))
+
+-- 9 to 15, for accepted parts
+graph-is : (rs cs qs a s : List ℕ) → AncestorsOf rs a → partsTest rs cs qs ≡ none → graphCode rs cs qs a s ≡ graphTests (describe rs cs qs) s
+unfolding graphCode graphTests
+graph-is rs cs qs a s anc e = let k = parts-accepted rs cs qs e in
+    refuse-then 0 (unless (graphHead s) 9 none) _ _ (λ h. forms-are rs cs qs a anc (k .0) (k .1) (k .2) s (head↔ s .0 (and-l (headTest s) _ (unless↔ (graphHead s) 9 none .0 h .0))))
+
+-- 2 to 15
+pub tables-code-is : (rs cs qs a s : List ℕ) → AncestorsOf rs a → tablesCode rs cs qs a s ≡ refuse 0 (partsTest rs cs qs) (graphTests (describe rs cs qs) s)
+tables-code-is rs cs qs a s anc = ap (λ o. refuse 0 o (graphCode rs cs qs a s)) (tables-are rs cs qs a anc)
+    ∙ refuse-then 0 (partsTest rs cs qs) _ _ (graph-is rs cs qs a s anc)
+
+-- ---- the answer
+unfoldable pub partsAnswer : List ℕ → List ℕ → List ℕ → List ℕ → Answer
+partsAnswer rs cs qs s = answer INHABITED (refuse 0 (partsTest rs cs qs) (graphTests (describe rs cs qs) s))
+
+module _ (rs cs qs a s : List ℕ) (anc : AncestorsOf rs a) where
+  -- what tests 2 to 15 give is answered
+  pub parts-told : (o : Option Refusal) → o ≡ tablesCode rs cs qs a s → answer INHABITED o ≡ partsAnswer rs cs qs s
+  unfolding partsAnswer
+  parts-told o e = ap (answer INHABITED) (e ∙ tables-code-is rs cs qs a s anc)
+
+module _ (d s : List ℕ) where
+  pub directory-told : directoryTest d ≡ false → ofVerdict (Refused 1 0) ≡ graphAnswer d s
+  unfolding graphRefused bytesTest
+  directory-told e = rw e refl
+
+  pub directory-on : (rs cs qs : List ℕ) → directoryTest d ≡ true → rs ≡ rolesPart d → cs ≡ conceptsPart d → qs ≡ queryPart d → partsAnswer rs cs qs s ≡ graphAnswer d s
+  unfolding partsAnswer graphRefused bytesTest
+  directory-on rs cs qs e p q r = rw (p, q, r, e) refl

@@ -1,0 +1,3 @@
+pub mod GraphEvidence
+pub mod GraphSteps
+pub mod GraphJoin

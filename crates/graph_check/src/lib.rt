@@ -1,0 +1,167 @@
+// Tests 9 to 15 of a graph, and the answer to a description with a graph.
+ghost use mathlib.Core.Path.{_≡_};
+ghost use mathlib.Core.Option.{none};
+ghost use Rattle.logic.specs.Refusals.{refuse, refuseFrom};
+ghost use Rattle.labels.specs.Labels.{valueOf};
+ghost use Rattle.answers.specs.Answers.{refusalOf, ofVerdict};
+ghost use Rattle.graph_check.specs.GraphSteps.{formCode, formOf, nodeCode, recordCode, recordsCode, graphCode, tablesCode};
+ghost use Rattle.graph_check.specs.GraphJoin.{partsAnswer};
+ghost use Rattle.graph_check.specs.GraphEvidence.{graphAnswer};
+use answers::Tested;
+use answers::Verdict;
+use edges::edges_ok;
+use evidence::Head;
+use evidence::node_form_ok;
+use evidence::read_head;
+use evidence::record_edges;
+use evidence::record_label;
+use fillers::counts_ok;
+use fillers::everys_ok;
+use intake::directory_ok;
+use intake::test_tables;
+use labels::Label;
+use nodes::boths_ok;
+use nodes::label_ok;
+use parts::part;
+use parts::read2;
+use roles::ancestors;
+
+// Test 10 of record `i`.
+fn form_ok(s: &[u8], i: u8) -> bool
+    ensures { λ r. ⌜ r ≡ formCode (now (s .entry)) i ⌝ }
+{
+    node_form_ok(read2(s, 2 + 4 * (i as usize) + 2))
+}
+
+// Test 10 of the `n` records.
+fn test_forms(s: &[u8], n: u8) -> Tested
+    ensures { λ r. ⌜ refusalOf r ≡ refuseFrom (formOf (now (s .entry))) n 0 none ⌝ }
+{
+    let mut i: u8 = 0;
+    while i < n {
+        if !form_ok(s, i) {
+            return Tested::Refused(10, i);
+        }
+        i += 1;
+    }
+    Tested::Fine
+}
+
+// Rules 11 to 15 of record `i`, whose label is `x` and whose edges are `es`, in a graph of `n` records.
+fn test_node(
+    rs: &[u8],
+    cs: &[u8],
+    qs: &[u8],
+    a: [u16; 16],
+    s: &[u8],
+    n: u8,
+    i: u8,
+    x: Label,
+    es: &[u8],
+) -> Tested
+    ensures { λ r. ⌜ refusalOf r ≡ refuse i (nodeCode (now (rs .entry)) (now (cs .entry)) (now (qs .entry)) a (now (s .entry)) n i (valueOf x) (now (es .entry))) none ⌝ }
+{
+    if !label_ok(cs, qs, x, i == 0) {
+        return Tested::Refused(11, i);
+    }
+    if !boths_ok(cs, x) {
+        return Tested::Refused(12, i);
+    }
+    if !edges_ok(es, a, rs.len() / 3, n) {
+        return Tested::Refused(13, i);
+    }
+    if !everys_ok(rs, cs, s, a, x, es) {
+        return Tested::Refused(14, i);
+    }
+    if !counts_ok(cs, s, x, es) {
+        return Tested::Refused(15, i);
+    }
+    Tested::Fine
+}
+
+// Rules 11 to 15 of record `i`, in a graph of `n` records.
+fn test_record(rs: &[u8], cs: &[u8], qs: &[u8], a: [u16; 16], s: &[u8], n: u8, i: u8) -> Tested
+    ensures { λ r. ⌜ refusalOf r ≡ refuse i (recordCode (now (rs .entry)) (now (cs .entry)) (now (qs .entry)) a (now (s .entry)) n i) none ⌝ }
+{
+    test_node(
+        rs,
+        cs,
+        qs,
+        a,
+        s,
+        n,
+        i,
+        record_label(s, i),
+        record_edges(s, i),
+    )
+}
+
+// Rules 11 to 15 of the `n` records.
+fn test_records(rs: &[u8], cs: &[u8], qs: &[u8], a: [u16; 16], s: &[u8], n: u8) -> Tested
+    ensures { λ r. ⌜ refusalOf r ≡ refuseFrom (recordCode (now (rs .entry)) (now (cs .entry)) (now (qs .entry)) a (now (s .entry)) n) n 0 none ⌝ }
+{
+    let mut i: u8 = 0;
+    while i < n {
+        let t = test_record(rs, cs, qs, a, s, n, i);
+        let Tested::Fine = t else {
+            return t;
+        };
+        i += 1;
+    }
+    Tested::Fine
+}
+
+// Tests 10 to 15 of the `n` records.
+fn test_all(rs: &[u8], cs: &[u8], qs: &[u8], a: [u16; 16], s: &[u8], n: u8) -> Tested
+    ensures { λ r. ⌜ refusalOf r ≡ recordsCode (now (rs .entry)) (now (cs .entry)) (now (qs .entry)) a (now (s .entry)) n ⌝ }
+{
+    let t = test_forms(s, n);
+    let Tested::Fine = t else {
+        return t;
+    };
+    test_records(rs, cs, qs, a, s, n)
+}
+
+// Tests 9 to 15 of the graph `s`, if `a` holds the ancestors of each role.
+fn test_graph(rs: &[u8], cs: &[u8], qs: &[u8], a: [u16; 16], s: &[u8]) -> Tested
+    ensures { λ r. ⌜ refusalOf r ≡ graphCode (now (rs .entry)) (now (cs .entry)) (now (qs .entry)) a (now (s .entry)) ⌝ }
+{
+    let head = read_head(s);
+    match head {
+        Head::GraphOf(n) => test_all(rs, cs, qs, a, s, n),
+        Head::RefutationOf(_) => Tested::Refused(9, 0),
+        Head::Off => Tested::Refused(9, 0),
+    }
+}
+
+// Tests 2 to 15, with the same table of ancestors.
+pub fn test_sample(rs: &[u8], cs: &[u8], qs: &[u8], a: [u16; 16], s: &[u8]) -> Tested
+    ensures { λ r. ⌜ refusalOf r ≡ tablesCode (now (rs .entry)) (now (cs .entry)) (now (qs .entry)) a (now (s .entry)) ⌝ }
+{
+    let t = test_tables(rs, cs, qs, a);
+    let Tested::Fine = t else {
+        return t;
+    };
+    test_graph(rs, cs, qs, a, s)
+}
+
+// The answer to the parts of a description with a graph.
+fn check_parts(rs: &[u8], cs: &[u8], qs: &[u8], s: &[u8]) -> Verdict
+    ensures { λ r. ⌜ ofVerdict r ≡ partsAnswer (now (rs .entry)) (now (cs .entry)) (now (qs .entry)) (now (s .entry)) ⌝ }
+{
+    let t = test_sample(rs, cs, qs, ancestors(rs), s);
+    match t {
+        Tested::Fine => Verdict::Inhabited,
+        Tested::Refused(n, i) => Verdict::Refused(n, i),
+    }
+}
+
+// The answer to a description with a graph.
+pub fn check_graph(d: &[u8], s: &[u8]) -> Verdict
+    ensures { λ r. ⌜ ofVerdict r ≡ graphAnswer (now (d .entry)) (now (s .entry)) ⌝ }
+{
+    if !directory_ok(d) {
+        return Verdict::Refused(1, 0);
+    }
+    check_parts(part(d, 0, 0), part(d, 0, 1), part(d, 0, 2), s)
+}

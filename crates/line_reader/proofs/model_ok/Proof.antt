@@ -1,0 +1,42 @@
+use mathlib.Core.Path.{_∙_}
+use borrow.Author.Needs.{needs}
+use Rattle.line_reader.specs.Order.{model-read}
+use Rattle.line_reader.specs.TruthSteps.{follows-is, satisfies-is}
+use Rattle.line_reader.proofs.model_ok.Statement.{statement}
+use Rattle.line_reader.proofs.model_ok.Tie as tie
+use Rattle.line_reader.proofs.model_ok.Reads as reads
+use Rattle.line_reader.proofs.model_ok.Lts as lts
+use Rattle.line_reader.proofs.pairs.inclusions_ok.Reads as inclusions-ok-reads
+use Rattle.line_reader.proofs.truth.root_ok.Reads as root-ok-reads
+use Rattle.line_reader.proofs.truth.rules_ok.Reads as rules-ok-reads
+use Rattle.line_reader.proofs.pairs.transitivity_ok.Reads as transitivity-ok-reads
+use Rattle.line_reader.proofs.truth.truth_sets.Reads as truth-sets-reads
+
+inclusions-ok-requires : tie.Need-inclusions-ok-requires
+inclusions-ok-requires c κs = search needs
+
+transitivity-ok-requires : tie.Need-transitivity-ok-requires
+transitivity-ok-requires c κs = search needs
+
+truth-sets-requires : tie.Need-truth-sets-requires
+truth-sets-requires c κs = search needs
+
+rules-ok-requires : tie.Need-rules-ok-requires
+rules-ok-requires c κs = search needs
+
+root-ok-requires : tie.Need-root-ok-requires
+root-ok-requires c κs = search needs
+
+returns : tie.Need-returns
+returns c = let p = c .before .before .before .before .before .before .before .before .before .args in let k = c .before .before .before .before .before .before .before .before .before .pre in model-read (p .rs .now) (p .cs .now) (p .qs .now) (p .s .now) (p .d) _ _ _ _ (k .0 .2) (k .1) (c .before .before .before .before .inclusions-ok .ensures) (c .before .before .before .transitivity-ok .ensures) (c .before .rules-ok .ensures ∙ follows-is (p .rs .now) (p .cs .now) (p .qs .now) (p .s .now) (c .before .before .truth-sets .result) (p .d) (k .0 .2) (c .before .before .truth-sets .ensures)) (c .root-ok .ensures ∙ satisfies-is (p .rs .now) (p .cs .now) (p .qs .now) (p .s .now) (c .before .before .truth-sets .result) (p .d) (k .0 .2) (c .before .before .truth-sets .ensures))
+
+pub model-ok-spec : {M : Type 1} → statement M
+model-ok-spec =
+    tie.close
+    (tie.spec
+    inclusions-ok-requires
+    transitivity-ok-requires
+    truth-sets-requires
+    rules-ok-requires
+    root-ok-requires
+    returns)

@@ -1,0 +1,4 @@
+pub mod Reading
+pub mod LineSteps
+pub mod TruthSteps
+pub mod Order

@@ -1,0 +1,105 @@
+// Test 23: the form of a line.
+ghost use mathlib.Core.Path.{_≡_};
+ghost use mathlib.Core.List.{List};
+ghost use Prim.Native.Nat.{ℕ, _*_, _/_, _<_, _≤_};
+ghost use lib.ListN.{length};
+ghost use Rattle.logic.specs.Bounded.{allBelow};
+ghost use Rattle.logic.specs.Sets.{narrow, within, setOf};
+ghost use Rattle.labels.specs.Labels.{num4};
+ghost use Rattle.tables.specs.Tables.{describe};
+ghost use Rattle.lines.specs.Lines.{nameAt, lineTest};
+ghost use Rattle.line_reader.specs.LineSteps.{maskAt, nameEntry, sizeTest};
+use super::places::mask_at;
+use super::places::name_at;
+use super::places::names_of;
+use super::places::pair_count;
+use parts::byte;
+use roles::fits16;
+use tables::EntryNo;
+use tables::fields_at;
+use words::put;
+
+// Whether entry `e` is a name.
+fn is_name(cs: &[u8], e: EntryNo) -> bool
+    ensures { λ r. ⌜ r ≡ nameEntry (now (cs .entry)) (e .0) ⌝ }
+{
+    let f = fields_at(cs, e);
+    f.kind == 1
+}
+
+// The set of the name entries.
+fn name_set(cs: &[u8]) -> u64
+    requires { ⌜ length (now cs) / 6 ≤ 32 ⌝ }
+    ensures { λ r. ⌜ r ≡ setOf (length (now (cs .entry)) / 6) (nameEntry (now (cs .entry))) ⌝ }
+{
+    let n = cs.len() / 6;
+    let mut out: u64 = 0;
+    let mut e: u8 = 0;
+    while (e as usize) < n {
+        out = put(out, e as usize, is_name(cs, EntryNo(e)));
+        e += 1;
+    }
+    out
+}
+
+// Whether the line has 1 to 64 elements and the length that they ask for.
+fn size_ok(s: &[u8]) -> bool
+    ensures { λ r. ⌜ r ≡ sizeTest (now (s .entry)) ⌝ }
+{
+    let d = byte(s, 0) as usize;
+    (1 <= d) & ((d <= 64) & (s.len() == name_at(d) + 2 * (d * d)))
+}
+
+// Whether the name mask of `x` lies within `set`.
+fn names_in(s: &[u8], x: usize, set: u64) -> bool
+    requires { ⌜ x < 64 ⌝ }
+    ensures { λ r. ⌜ r ≡ within (num4 (now (s .entry)) (nameAt x)) set ⌝ }
+{
+    let m = names_of(s, x) as u64;
+    m & set == m
+}
+
+// Whether each name mask lies within `set`.
+fn names_ok(s: &[u8], d: usize, set: u64) -> bool
+    requires { ⌜ d ≤ 64 ⌝ }
+    ensures { λ r. ⌜ r ≡ allBelow d (λ x. within (num4 (now (s .entry)) (nameAt x)) set) ⌝ }
+{
+    let mut x: usize = 0;
+    while x < d {
+        if !names_in(s, x, set) {
+            return false;
+        }
+        x += 1;
+    }
+    true
+}
+
+// Whether each role mask holds numbers below `n` alone.
+fn masks_ok(s: &[u8], d: usize, n: usize) -> bool
+    requires { ⌜ d ≤ 64 ⌝ }
+    ensures { λ r. ⌜ r ≡ allBelow (d * d) (λ q. narrow (maskAt (now (s .entry)) d q) n) ⌝ }
+{
+    let pairs = pair_count(d);
+    let mut q: usize = 0;
+    while q < pairs {
+        if !fits16(mask_at(s, d, q), n) {
+            return false;
+        }
+        q += 1;
+    }
+    true
+}
+
+// Test 23.
+pub(crate) fn line_ok(rs: &[u8], cs: &[u8], s: &[u8]) -> bool
+    requires { ⌜ length (now cs) / 6 ≤ 32 ⌝ }
+    ensures { λ r. ⌜ ((qs : List ℕ) → r ≡ lineTest (describe (now (rs .entry)) (now (cs .entry)) qs) (now (s .entry))) ⌝ }
+{
+    if !size_ok(s) {
+        return false;
+    }
+    let d = byte(s, 0) as usize;
+    let names = names_ok(s, d, name_set(cs));
+    let masks = masks_ok(s, d, rs.len() / 3);
+    names & masks
+}

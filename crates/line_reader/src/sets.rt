@@ -1,0 +1,48 @@
+// Sets of elements: numbers below 64, in one word.
+ghost use mathlib.Core.Path.{_≡_};
+ghost use Prim.Native.Nat.{_<_, _≤_};
+ghost use Rattle.logic.specs.Sums.{only, countBelow};
+ghost use Rattle.logic.specs.Sets.{has};
+ghost use Rattle.words.specs.Words.{allOf};
+
+// Whether the set holds `i`.
+pub(crate) fn has64(x: u64, i: usize) -> bool
+    requires { ⌜ i < 64 ⌝ }
+    ensures { λ r. ⌜ r ≡ has x i ⌝ }
+{
+    (x >> i) % 2 == 1
+}
+
+// 1 if the set holds `i`, else 0.
+fn bit64(x: u64, i: usize) -> usize
+    requires { ⌜ i < 64 ⌝ }
+    ensures { λ r. ⌜ (r ≡ only (has x i) 1) × (r ≤ 1) ⌝ }
+{
+    ((x >> i) % 2) as usize
+}
+
+// The set of the first `d` numbers.
+pub(crate) fn full_set(d: usize) -> u64
+    requires { ⌜ d ≤ 64 ⌝ }
+    ensures { λ r. ⌜ r ≡ allOf d ⌝ }
+{
+    if d < 64 {
+        (1 << d) - 1
+    } else {
+        18446744073709551615
+    }
+}
+
+// How many of the first `d` numbers the set holds.
+pub(crate) fn set_size(x: u64, d: usize) -> usize
+    requires { ⌜ d ≤ 64 ⌝ }
+    ensures { λ r. ⌜ r ≡ countBelow d (has x) ⌝ }
+{
+    let mut n: usize = 0;
+    let mut i: usize = 0;
+    while i < d {
+        n += bit64(x, i);
+        i += 1;
+    }
+    n
+}

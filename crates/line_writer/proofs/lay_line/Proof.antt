@@ -1,0 +1,46 @@
+use mathlib.Core.Path.{_∙_}
+use native.Mathlib.Omega.{arith}
+use lib.ListN.{length-set}
+use Rattle.line_writer.specs.WriteBytes.{lay-steps}
+use borrow.Author.Needs.{needs}
+use Rattle.line_writer.proofs.lay_line.Statement.{statement}
+use Rattle.line_writer.proofs.lay_line.Tie as tie
+use Rattle.line_writer.proofs.lay_line.Reads as reads
+use Rattle.line_writer.proofs.lay_line.Lts as lts
+use Rattle.closing.proofs.close_roles.Reads as close-roles-reads
+use Rattle.line_writer.proofs.lay_names.Reads as lay-names-reads
+use Rattle.line_writer.proofs.lay_rows.Reads as lay-rows-reads
+use Rattle.line_writer.proofs.transitive_roles.Reads as transitive-roles-reads
+
+slice-write-buf : tie.Need-slice-write-buf
+slice-write-buf c = search needs
+
+lay-names-requires : tie.Need-lay-names-requires
+lay-names-requires c κs = (omega arith, rw length-set (omega arith))
+
+lay-rows-requires : tie.Need-lay-rows-requires
+lay-rows-requires c κs = let p = c .before .before .before .before .before .before .before .before .before .args in let n = c .before .before .before .lay-names .ensures .size in let m = length-set (p .buf .now) 0 (p .d) in (omega arith, omega arith)
+
+transitive-roles-requires : tie.Need-transitive-roles-requires
+transitive-roles-requires c κs = search needs
+
+close-roles-requires : tie.Need-close-roles-requires
+close-roles-requires c κs = search needs
+
+same-length : tie.Need-same-length
+same-length c = let p = c .before .before .before .before .before .before .before .before .before .before .before .before .before .before .before .before .before .args in c .before .before .close-roles .ensures .0 ∙ c .before .before .before .before .before .before .before .lay-rows .ensures .size ∙ c .before .before .before .before .before .before .before .before .before .before .before .lay-names .ensures .size ∙ length-set (p .buf .now) 0 (p .d)
+
+returns : tie.Need-returns
+returns c = let p = c .before .before .before .before .before .before .before .before .before .before .before .before .before .before .before .before .before .args in lay-steps (p .rs .now) (p .cs .now) (p .s .now) (p .a) (p .k) (p .d) _ (p .buf .now) _ _ _ (omega arith) (c .before .before .before .transitive-roles .ensures) (c .before .before .before .before .before .before .before .before .before .before .before .lay-names .ensures) (c .before .before .before .before .before .before .before .lay-rows .ensures) (c .before .before .close-roles .ensures)
+
+pub lay-line-spec : {M : Type 1} → statement M
+lay-line-spec =
+    tie.close
+    (tie.spec
+    slice-write-buf
+    lay-names-requires
+    lay-rows-requires
+    transitive-roles-requires
+    close-roles-requires
+    same-length
+    returns)

@@ -1,0 +1,167 @@
+-- The buffer that the code leaves has the bytes of the line of the graph, and then the old ones.
+use Prim.Native.Nat.{ℕ, _+_, _-_, _*_, _/_, _%_, _≤_, _<_}
+use mathlib.Core.Path.{_≡_, refl, sym, _∙_, ap, ap₂}
+use mathlib.Core.Logic.{_↔_}
+use mathlib.Core.Bool.{Bool, true, false, _&&_}
+use mathlib.Core.List.{List, _++_}
+use native.Mathlib.Omega.{arith}
+use native.Mathlib.Decide.{decLt, decLe}
+use native.Mathlib.Nat.{div-lt-iff-lt-mul, mod-lt, mul-le-mul}
+use borrow.Author.Tests.{le-leb, lt-leb, lt-ltb, le-ltb}
+use lib.Dec.{eqb}
+use lib.ListN.{length, drop, getD, set}
+use Rattle.logic.specs.Tests.{So}
+use Rattle.logic.specs.Sets.{has, setOf}
+use Rattle.logic.specs.SetLaws.{lt-has, setOf-cong, setOf↔}
+use Rattle.parts.specs.Numbers.{byteAt, up-to-all}
+use Rattle.description.specs.Literals.{members}
+use Rattle.description.specs.Descriptions.{Description, isName}
+use Rattle.description.specs.Roles.{ancestor}
+use Rattle.description.specs.Acceptance.{Accepted}
+use Rattle.tables.specs.Tables.{describe}
+use Rattle.roles.specs.Ancestors.{AncestorsOf, ancestor-masks}
+use Rattle.evidence.specs.Evidence.{recordCount, HeadOk, recordAt, labelOf, edgesPart, graphIn, graph-size, NodeForm}
+use Rattle.evidence.specs.InPlace.{label-there, edges-there, edges-few}
+use Rattle.copies.specs.Copying.{ownerMask, owner-is}
+use Rattle.closing.specs.Closing.{maskAt, closedMask, closedByte}
+use Rattle.graph.specs.Graphs.{Keeps}
+use Rattle.graph.specs.Line.{copies, joins, direct, line}
+use Rattle.graph.specs.Copies.{copies-pos}
+use Rattle.lines.specs.Lines.{nameAt, pairAt, lineLength, nameMask, roleMask, byteOf, lineByte, pairByte, lineBytes}
+use Rattle.lines.specs.LineLaws.{pair-below, pair-row, pair-column, two-bytes, byte-size, byte-names, byte-pairs, written}
+use Rattle.graph_check.specs.GraphEvidence.{wanted}
+use Rattle.line_writer.specs.Laying.{Laid, laid-byte}
+use Rattle.line_writer.specs.WriteSteps.{namesIn, namesByte, transitivesIn, rowsByte}
+use Rattle.line_writer.specs.WriteJoin.{direct-in, closed, closed-is}
+
+-- what the code leaves in a buffer: the number of elements, then the name masks, then the direct pairs, then these closed
+pub record LaidLine (rs cs s a : List ℕ) (k d : ℕ) (old new : List ℕ) : Type 0 where
+  pub counted : List ℕ
+  pub named : List ℕ
+  pub direct : List ℕ
+  pub count : Laid (λ p. d) 0 1 old counted
+  pub names : Laid (namesByte cs s k) 1 (nameAt d) counted named
+  pub rows : Laid (rowsByte s k d) (nameAt d) (lineLength d) named direct
+  pub size : length new ≡ length direct
+  pub bytes : (p : ℕ) → byteAt new p ≡ closedByte direct d (transitivesIn rs) a p
+
+-- the code's four steps
+pub lay-steps : (rs cs s a : List ℕ) (k d t : ℕ) (old named direct new : List ℕ) → 0 < length old → t ≡ transitivesIn rs
+    → Laid (namesByte cs s k) 1 (nameAt d) (set old 0 d) named → Laid (rowsByte s k d) (nameAt d) (lineLength d) named direct
+    → (length new ≡ length direct) × ((p : ℕ) → byteAt new p ≡ closedByte direct d t a p) → LaidLine rs cs s a k d old new
+lay-steps rs cs s a k d t old named direct new some e n r c = record {
+  counted = set old 0 d;
+  named = named;
+  direct = direct;
+  count = laid-byte (λ p. d) 0 1 d old refl some refl;
+  names = n;
+  rows = r;
+  size = c .0;
+  bytes = λ p. c .1 p ∙ ap (λ m. closedByte direct d m a p) e;
+}
+
+module _ (rs cs qs : List ℕ) (A : Accepted (describe rs cs qs)) (few : length rs / 3 ≤ 16) (table : length cs / 6 ≤ 32)
+    (s : List ℕ) (head : HeadOk s) (formed : (x : ℕ) → x < recordCount s → NodeForm (length (recordAt s x)))
+    (keeps : Keeps (describe rs cs qs) (wanted (describe rs cs qs)) (graphIn s)) where
+  abbrev D : Description
+  D = describe rs cs qs
+
+  abbrev k : ℕ
+  k = copies (graphIn s)
+
+  abbrev d : ℕ
+  d = length (graphIn s) * k
+
+  node-in : (x : ℕ) → x < d → x / k < recordCount s
+  node-in x h = rw (graph-size s) at (div-lt-iff-lt-mul (copies-pos (graphIn s)) .1 h)
+
+  -- the name mask of element x
+  name-is : (x : ℕ) → x < d → namesIn cs (labelOf s (x / k)) ≡ nameMask D (line D (graphIn s)) x
+  unfolding members namesIn
+  name-is x h = ap (λ n. setOf n (λ e. isName (D .entry e) && has (labelOf s (x / k)) (2 * e))) (up-to-all 32 (length cs / 6) table)
+      ∙ setOf-cong (D .entries) _ _ (λ e _. twice (isName (D .entry e)) _ _ (ap (λ n. has n (2 * e)) (sym (label-there s head formed (x / k) (node-in x h)))))
+    where
+      twice : (a b c : Bool) → b ≡ c → (a && b) ≡ (a && (a && c))
+      twice true b c e = e
+      twice false b c e = refl
+
+  -- the direct pairs of elements x and y
+  direct-is : (x y : ℕ) → x < d → (r : ℕ) → has (ownerMask (edgesPart s (x / k)) (y / k) (y % k)) r ≡ direct (graphIn s) k r x y
+  unfolding direct
+  direct-is x y h r = owner-is (edgesPart s (x / k)) (y / k) (y % k) (edges-few s head formed (x / k) (node-in x h)) r
+      ∙ ap (λ es. joins es (y / k) (y % k) r) (sym (edges-there s head formed (x / k) (node-in x h)))
+
+  -- a buffer b with the direct pairs as its role masks
+  module _ (b mid : List ℕ) (rows : Laid (rowsByte s k d) (nameAt d) (lineLength d) mid b) where
+    mask-is : (x y : ℕ) → x < d → y < d → maskAt b d x y ≡ ownerMask (edgesPart s (x / k)) (y / k) (y % k)
+    mask-is x y hx hy = ap₂ (λ (a b : ℕ). a * 256 + b) (at _ 0 (omega arith) (omega arith)) (at _ 1 refl (omega arith))
+        ∙ two-bytes m (lt-has 16 m (λ r u. let z = direct-in D A few (wanted D) (graphIn s) keeps r x y hx (sym (direct-is x y hx r) ∙ u) in omega arith))
+      where
+        m : ℕ
+        m = ownerMask (edgesPart s (x / k)) (y / k) (y % k)
+
+        at : (p i : ℕ) → p ≡ pairAt d x y + i → i < 2 → byteAt b p ≡ byteOf 2 m i
+        at p i e hi =
+            let h : (p - nameAt d) / 2 ≡ x * d + y = omega arith in let o : (p - nameAt d) % 2 ≡ i = omega arith in
+            rows .inside p (omega arith) (omega (arith, pair-below d x y hx hy)) ∙ rw (h, o, pair-row d x y hy, pair-column d x y hy) refl
+
+    -- the mask of the transitive roles, and the table of ancestors
+    module _ (t : ℕ) (transitive : (r : ℕ) → So (has t r) ↔ ((r < D .roles) × So (D .transitive r)))
+        (a : List ℕ) (ancestors : (r : ℕ) → r < D .roles → getD a r 0 ≡ setOf 16 (ancestor D r)) where
+      closed-mask : (x y : ℕ) → x < d → y < d → closedMask b d t a x y ≡ roleMask D (line D (graphIn s)) x y
+      unfolding closedMask
+      closed-mask = closed-is D A few (wanted D) (graphIn s) keeps (maskAt b d)
+          (λ x y hx hy r. ap (λ m. has m r) (mask-is x y hx hy) ∙ direct-is x y hx r) t transitive a ancestors
+
+      -- all bytes of the buffer: the number of elements, the name masks, the closed role masks, and then the old bytes
+      -- outside the role masks nothing is closed
+      outside : (p : ℕ) → lineLength d ≤ length b → (nameAt d ≤ p → p < lineLength d → ⊥) → closedByte b d t a p ≡ byteAt b p
+      unfolding closedByte
+      outside p room h = elim (decLe (nameAt d) p) [
+        | yes l ↦ (let z : lineLength d ≤ p = elim (decLt p (lineLength d)) [ yes g ↦ absurd (h l g) | no g ↦ omega arith ] in rw (le-leb _ _ room, le-leb _ _ l, le-ltb _ _ z) refl)
+        | no l ↦ (let z : p < nameAt d = omega arith in rw (le-leb _ _ room, lt-leb _ _ z) refl)
+      ]
+
+      inside : (p : ℕ) → lineLength d ≤ length b → nameAt d ≤ p → p < lineLength d → closedByte b d t a p ≡ pairByte D (line D (graphIn s)) (p - nameAt d)
+      unfolding closedByte
+      inside p room h g = rw (le-leb _ _ room, le-leb _ _ h, lt-ltb _ _ g) (ap (λ m. byteOf 2 m ((p - nameAt d) % 2))
+          (closed-mask ((p - nameAt d) / 2 / d) ((p - nameAt d) / 2 % d) (div-lt-iff-lt-mul some .1 (omega arith)) (mod-lt ((p - nameAt d) / 2) some)))
+        where
+          some : 0 < d
+          some = omega (arith, mul-le-mul (keeps .some-node) (copies-pos (graphIn s)))
+
+      pub line-written : (old new : List ℕ) → length b ≡ length old → lineLength d ≤ length old → byteAt b 0 ≡ d
+          → ((p : ℕ) → 1 ≤ p → p < nameAt d → byteAt b p ≡ namesByte cs s k p)
+          → ((p : ℕ) → lineLength d ≤ p → byteAt b p ≡ byteAt old p)
+          → length new ≡ length b → ((p : ℕ) → byteAt new p ≡ closedByte b d t a p)
+          → new ≡ lineBytes D (line D (graphIn s)) ++ drop (lineLength d) old
+      line-written old new size room first names rest same bytes = written D (line D (graphIn s)) old new (same ∙ size) room
+          (λ p h. bytes p ∙ elim (decLt p (nameAt d)) [ yes l ↦ early p l | no l ↦ late p (omega arith) h ])
+          (λ p h. bytes p ∙ beyond p h ∙ rest p h)
+        where
+          early : (p : ℕ) → p < nameAt d → closedByte b d t a p ≡ lineByte D (line D (graphIn s)) p
+          early p h = outside p (rw size room) (λ l g. omega arith) ∙ elim (decLt 0 p) [
+            | yes l ↦ names p l h ∙ ap (λ m. byteOf 4 m ((p - 1) % 4)) (name-is ((p - 1) / 4) (omega arith)) ∙ sym (byte-names D (line D (graphIn s)) p (λ e. omega arith) h)
+            | no l ↦ (let z : p ≡ 0 = omega arith in rw z (first ∙ sym (byte-size D (line D (graphIn s)))))
+          ]
+
+          late : (p : ℕ) → nameAt d ≤ p → p < lineLength d → closedByte b d t a p ≡ lineByte D (line D (graphIn s)) p
+          late p h g = inside p (rw size room) h g ∙ sym (byte-pairs D (line D (graphIn s)) p h)
+
+          beyond : (p : ℕ) → lineLength d ≤ p → closedByte b d t a p ≡ byteAt b p
+          beyond p h = outside p (rw size room) (λ l g. omega arith)
+
+  -- so a buffer that the code has filled is the line, and then the old bytes
+  pub laid-line : (a old new : List ℕ) → AncestorsOf rs a → lineLength d ≤ length old → LaidLine rs cs s a k d old new
+      → new ≡ lineBytes D (line D (graphIn s)) ++ drop (lineLength d) old
+  unfolding transitivesIn
+  laid-line a old new anc room L = line-written (L .direct) (L .named) (L .rows) (transitivesIn rs) transitive a
+      (λ r h. ancestor-masks rs cs qs a anc few r (omega arith)) old new
+      (L .rows .size ∙ L .names .size ∙ L .count .size) room
+      (L .rows .before 0 (omega arith) ∙ L .names .before 0 (omega arith) ∙ L .count .inside 0 (omega arith) (omega arith))
+      (λ p h g. L .rows .before p g ∙ L .names .inside p h g)
+      (λ p h. L .rows .after p h ∙ L .names .after p (omega arith) ∙ L .count .after p (omega arith))
+      (L .size) (L .bytes)
+    where
+      transitive : (r : ℕ) → So (has (transitivesIn rs) r) ↔ ((r < D .roles) × So (D .transitive r))
+      transitive r = rw (up-to-all 16 (length rs / 3) few) (setOf↔ (length rs / 3) (λ r. eqb (byteAt rs (3 * r)) 1) r)

@@ -1,0 +1,56 @@
+-- The line writer (01, "The written line"; FORMAT 7, 8): its refusals, its answer, and every byte of the buffer afterwards.
+use Prim.Native.Nat.{ℕ, _≤_}
+use mathlib.Core.Path.{_≡_, refl}
+use mathlib.Core.Logic.{_↔_}
+use mathlib.Core.List.{List, _++_}
+use mathlib.Core.Option.{Option, none, some}
+use native.Mathlib.Omega.{arith}
+use lib.Dec.{leb}
+use lib.ListN.{length, drop}
+use Rattle.logic.specs.Tests.{reading}
+use Rattle.logic.specs.Refusals.{Refusal, unless, unless↔, refuse, refuse↔, firstOf, first↔}
+use Rattle.interpretation.specs.Meaning.{Interpretation}
+use Rattle.graph.specs.Line.{line}
+use Rattle.lines.specs.Lines.{lineLength, mostElements, lineBytes}
+use Rattle.intake.specs.Intake.{described, AcceptedBytes}
+use Rattle.evidence.specs.Evidence.{graphIn}
+use Rattle.graph_check.specs.GraphEvidence.{graphRefused, GraphKept, refused↔}
+use Rattle.answers.specs.Answers.{Answer, answer, WRITTEN, told↔}
+
+-- the line of the graph that the evidence is
+abbrev pub lineOf : List ℕ → List ℕ → Interpretation
+lineOf d s = line (described d) (graphIn s)
+
+-- 21: more than 64 elements; 22: a buffer of n bytes is shorter than the line. K, and so the size, is known before both
+abbrev pub roomTest : ℕ → ℕ → Option ℕ
+roomTest size n = unless (leb size mostElements) 21 (unless (leb (lineLength size) n) 22 none)
+
+-- 1 to 15, as for the graph's answer, then 21, then 22
+unfoldable pub writeRefused : List ℕ → List ℕ → ℕ → Option Refusal
+writeRefused d s n = firstOf (graphRefused d s) (refuse 0 (roomTest (lineOf d s .size) n) none)
+
+abbrev pub writeAnswer : List ℕ → List ℕ → ℕ → Answer
+writeAnswer d s n = answer WRITTEN (writeRefused d s n)
+
+-- what a refusal leaves, or what is there otherwise
+abbrev pub unlessRefused : {A : Type 0} → A → A → Option Refusal → A
+unlessRefused kept done none = done
+unlessRefused kept done (some x) = kept
+
+-- the length that is answered: of the line, or 0
+abbrev pub writeLength : List ℕ → List ℕ → ℕ → ℕ
+writeLength d s n = unlessRefused 0 (lineLength (lineOf d s .size)) (writeRefused d s n)
+
+-- the buffer afterwards: the bytes of the line and then the old bytes; on a refusal all is as before
+abbrev pub bufferAfter : List ℕ → List ℕ → List ℕ → List ℕ
+bufferAfter d s old = unlessRefused old (lineBytes (described d) (lineOf d s) ++ drop (lineLength (lineOf d s .size)) old) (writeRefused d s (length old))
+
+-- ---- exactly when
+pub written↔ : (d s : List ℕ) (n : ℕ) → (writeAnswer d s n ≡ answer WRITTEN none)
+    ↔ ((AcceptedBytes d × GraphKept (described d) s) × ((lineOf d s .size ≤ mostElements) × (lineLength (lineOf d s .size) ≤ n)))
+unfolding writeRefused
+written↔ d s n = let w = told↔ WRITTEN WRITTEN (writeRefused d s n) (λ e. let z : _≡_ {A = ℕ} 0 1 = cc in omega arith) in let k = room↔ in
+    (λ e. k .0 (w .0 e .1), λ h. w .1 (refl, k .1 h))
+  where
+    room↔ : (writeRefused d s n ≡ none) ↔ ((AcceptedBytes d × GraphKept (described d) s) × ((lineOf d s .size ≤ mostElements) × (lineLength (lineOf d s .size) ≤ n)))
+    room↔ = simp (first↔, refused↔, refuse↔, unless↔, reading) (λ t. (t .0, (t .1 .0 .0, t .1 .0 .1 .0)), λ t. (t .0, ((t .1 .0, (t .1 .1, refl)), refl)))
