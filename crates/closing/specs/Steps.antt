@@ -19,7 +19,7 @@ use Rattle.logic.specs.Sets.{has, setOf}
 use Rattle.logic.specs.SetLaws.{set-ext, no-member, has-lt, setOf-lt, setOf↔, setOf-has, setOf-cong, or-setOf, or-members, and-members}
 use Rattle.parts.specs.Numbers.{byteAt, num2}
 use Rattle.lines.specs.Lines.{nameAt, pairAt, lineLength, byteOf}
-use Rattle.closing.specs.Laying.{Laid, Bytes, put2, laid-none, laid-rest, laid-more, laid-append, laid-as, laid-then}
+use Rattle.lines.specs.Laying.{Masks, Bytes, put2, laid-none, laid-rest, mask-more, laid-append, laid-as, laid-then, two-local}
 use Rattle.closing.specs.Closing.{maskAt, joinedBy, closedMask, closedPair, closedByte}
 
 -- ---- a row takes over from another
@@ -36,13 +36,13 @@ join-bytes a b c d m hb hd hm = let e : m ≡ m / 256 % 256 * 256 + m % 256 = om
 
 -- what is read has not been written: the source is the row itself, or lies behind it, or wholly before it
 pub join-more : (at from m y n : ℕ) (old new : List ℕ) → y < n → at + 2 * n ≤ length old → (at ≤ from) ⊎ (from + 2 * n ≤ at) → m < 65536 → Bytes new
-    → Laid at (joinMask old at from m) old y new
-    → Laid at (joinMask old at from m) old (y + 1) (put2 new (at + 2 * y) (bitOr (byteAt new (at + 2 * y)) (bitAnd (byteAt new (from + 2 * y)) (m / 256 % 256)))
+    → Masks at (joinMask old at from m) old y new
+    → Masks at (joinMask old at from m) old (y + 1) (put2 new (at + 2 * y) (bitOr (byteAt new (at + 2 * y)) (bitAnd (byteAt new (from + 2 * y)) (m / 256 % 256)))
     (bitOr (byteAt new (at + 2 * y + 1)) (bitAnd (byteAt new (from + 2 * y + 1)) (m % 256))))
-join-more at from m y n old new h room apart hm bytes l = laid-more at y _ _ (joinMask old at from m) old new (omega arith)
+join-more at from m y n old new h room apart hm bytes l = mask-more at y _ _ (joinMask old at from m) old new (omega arith)
     (join-bytes (byteAt new (at + 2 * y)) (byteAt new (at + 2 * y + 1)) (byteAt new (from + 2 * y)) (byteAt new (from + 2 * y + 1)) m (bytes (at + 2 * y + 1)) (bytes (from + 2 * y + 1)) hm
-    ∙ ap₂ (λ (a b : ℕ). bitOr a (bitAnd b m)) (laid-rest l (at + 2 * y) (inr (omega arith)))
-    (laid-rest l (from + 2 * y) (elim apart [ inl q ↦ inr (omega arith) | inr q ↦ inl (omega arith) ]))) l
+    ∙ ap₂ (λ (a b : ℕ). bitOr a (bitAnd b m)) (laid-rest 2 num2 two-local l (at + 2 * y) (inr (omega arith)))
+    (laid-rest 2 num2 two-local l (from + 2 * y) (elim apart [ inl q ↦ inr (omega arith) | inr q ↦ inl (omega arith) ]))) l
 
 -- ---- rows
 -- mask i of d rows of d
@@ -89,15 +89,15 @@ module _ (l : List ℕ) (d x k t m : ℕ) (e : m ≡ num2 l (nameAt d + 2 * (x *
       let r : nameAt d + 2 * (x * d) + 2 * k ≡ nameAt d + 2 * (x * d + k) = omega arith in
       ap₂ bitOr (ap (num2 l) p) (ap₂ bitAnd (ap (num2 l) q) (ap (λ n. bitAnd n t) (e ∙ ap (num2 l) r)))
 
-  pub row-joined : (new : List ℕ) → Laid (nameAt d + 2 * (x * d)) (joinMask l (nameAt d + 2 * (x * d)) (nameAt d + 2 * (k * d)) (bitAnd m t)) l d new
-      → Laid (nameAt d + 2 * (x * d)) (rowMask l d x k t) l d new
-  row-joined new j = laid-as (nameAt d + 2 * (x * d)) d _ _ l new j (λ c _. row-is c)
+  pub row-joined : (new : List ℕ) → Masks (nameAt d + 2 * (x * d)) (joinMask l (nameAt d + 2 * (x * d)) (nameAt d + 2 * (k * d)) (bitAnd m t)) l d new
+      → Masks (nameAt d + 2 * (x * d)) (rowMask l d x k t) l d new
+  row-joined new j = laid-as 2 num2 two-local (nameAt d + 2 * (x * d)) d _ _ l new j (λ c _. row-is c)
 
   -- no such role: the row stays
-  pub row-stays : bitAnd m t ≡ 0 → Laid (nameAt d + 2 * (x * d)) (rowMask l d x k t) l d l
+  pub row-stays : bitAnd m t ≡ 0 → Masks (nameAt d + 2 * (x * d)) (rowMask l d x k t) l d l
   row-stays z = record {
     whole = refl;
-    masks = λ c _. sym (or-zero-r (num2 l (nameAt d + 2 * (x * d) + 2 * c)))
+    numbers = λ c _. sym (or-zero-r (num2 l (nameAt d + 2 * (x * d) + 2 * c)))
         ∙ sym (ap (bitOr (num2 l (nameAt d + 2 * (x * d) + 2 * c))) (ap (bitAnd (num2 l (nameAt d + 2 * (k * d) + 2 * c))) z ∙ and-zero-r (num2 l (nameAt d + 2 * (k * d) + 2 * c))))
         ∙ row-is c;
     others = λ p _. refl;
@@ -108,26 +108,26 @@ absorb a b = set-ext (bitOr a (bitAnd a b)) a
     (λ i u. elim (or-members a (bitAnd a b) i .0 u) [ inl v ↦ v | inr v ↦ and-members a b i .0 v .0 ])
     (λ i u. or-members a (bitAnd a b) i .1 (inl u))
 
-pub pass-start : (d k t : ℕ) (l : List ℕ) → Laid (nameAt d) (viaMask l d k t) l (0 * d) l
-pass-start d k t l = rw zero-mul (laid-none (nameAt d) (viaMask l d k t) l)
+pub pass-start : (d k t : ℕ) (l : List ℕ) → Masks (nameAt d) (viaMask l d k t) l (0 * d) l
+pass-start d k t l = rw zero-mul (laid-none 2 num2 two-local (nameAt d) (viaMask l d k t) l)
 
 -- row k, and column k of the rows to come, are as they were
-module _ (d x k t : ℕ) (old mid new : List ℕ) (hx : x < d) (hk : k < d) (a : Laid (nameAt d) (viaMask old d k t) old (x * d) mid) where
+module _ (d x k t : ℕ) (old mid new : List ℕ) (hx : x < d) (hk : k < d) (a : Masks (nameAt d) (viaMask old d k t) old (x * d) mid) where
   ahead : (c : ℕ) → maskNo mid d (x * d + c) ≡ maskNo old d (x * d + c)
-  ahead c = laid-rest a (nameAt d + 2 * (x * d + c)) (inr (omega arith))
+  ahead c = laid-rest 2 num2 two-local a (nameAt d + 2 * (x * d + c)) (inr (omega arith))
 
   source : (c : ℕ) → c < d → maskNo mid d (k * d + c) ≡ maskNo old d (k * d + c)
   unfolding viaMask
   source c h = elim (decLt k x) [
-    | yes q ↦ a .masks (k * d + c) (omega (arith, row-below k x d q))
+    | yes q ↦ a .numbers (k * d + c) (omega (arith, row-below k x d q))
         ∙ ap₂ (λ u v. rowMask old d u k t v) (row-of d k c h) (column-of d k c h) ∙ absorb (maskNo old d (k * d + c)) (bitAnd (maskNo old d (k * d + k)) t)
-    | no q ↦ laid-rest a (nameAt d + 2 * (k * d + c)) (let z : x * d ≤ k * d = mul-le-mul-right d (omega arith) in inr (omega arith))
+    | no q ↦ laid-rest 2 num2 two-local a (nameAt d + 2 * (k * d + c)) (let z : x * d ≤ k * d = mul-le-mul-right d (omega arith) in inr (omega arith))
   ]
 
-  pub pass-more : Laid (nameAt d + 2 * (x * d)) (rowMask mid d x k t) mid d new → Laid (nameAt d) (viaMask old d k t) old ((x + 1) * d) new
+  pub pass-more : Masks (nameAt d + 2 * (x * d)) (rowMask mid d x k t) mid d new → Masks (nameAt d) (viaMask old d k t) old ((x + 1) * d) new
   unfolding viaMask
-  pass-more b = let z : x * d + d ≡ (x + 1) * d = omega arith in subst (λ n. Laid (nameAt d) (viaMask old d k t) old n new) z
-      (laid-append (nameAt d) (x * d) d (viaMask old d k t) (rowMask mid d x k t) old mid new a b
+  pass-more b = let z : x * d + d ≡ (x + 1) * d = omega arith in subst (λ n. Masks (nameAt d) (viaMask old d k t) old n new) z
+      (laid-append 2 num2 two-local (nameAt d) (x * d) d (viaMask old d k t) (rowMask mid d x k t) old mid new a b
       (λ c h. ap₂ bitOr (ahead c) (ap₂ bitAnd (source c h) (ap (λ n. bitAnd n t) (ahead k)))
       ∙ sym (ap₂ (λ u v. rowMask old d u k t v) (row-of d x c h) (column-of d x c h))))
 
@@ -146,11 +146,11 @@ own-roles l at bytes = setOf-has 16 (num2 l at) (omega (arith, bytes at, bytes (
 whole-no : (d i : ℕ) (m : List ℕ) → maskAt m d (i / d) (i % d) ≡ maskNo m d i
 whole-no d i m = ap (maskNo m d) (div-add-mod' i d)
 
-pub stop-start : (d t : ℕ) (l : List ℕ) → Bytes l → Laid (nameAt d) (stopMask l d t 0) l (d * d) l
+pub stop-start : (d t : ℕ) (l : List ℕ) → Bytes l → Masks (nameAt d) (stopMask l d t 0) l (d * d) l
 unfolding stopMask closure
 stop-start d t l bytes = record {
   whole = refl;
-  masks = λ i _. sym (setOf-cong 16 _ _ (λ r _. either (has t r) (joinedBy l d r (i / d) (i % d))) ∙ own-roles l (pairAt d (i / d) (i % d)) bytes ∙ whole-no d i l);
+  numbers = λ i _. sym (setOf-cong 16 _ _ (λ r _. either (has t r) (joinedBy l d r (i / d) (i % d))) ∙ own-roles l (pairAt d (i / d) (i % d)) bytes ∙ whole-no d i l);
   others = λ p _. refl;
 }
   where
@@ -192,16 +192,16 @@ stop-on m d t k x y = set-ext _ _
     ]
     back r l false e h = inl (members k x y r .1 (l, rw e h))
 
-pub stop-more : (d t k : ℕ) (old mid new : List ℕ) → k < d → Laid (nameAt d) (stopMask old d t k) old (d * d) mid → Laid (nameAt d) (viaMask mid d k t) mid (d * d) new
-    → Laid (nameAt d) (stopMask old d t (k + 1)) old (d * d) new
+pub stop-more : (d t k : ℕ) (old mid new : List ℕ) → k < d → Masks (nameAt d) (stopMask old d t k) old (d * d) mid → Masks (nameAt d) (viaMask mid d k t) mid (d * d) new
+    → Masks (nameAt d) (stopMask old d t (k + 1)) old (d * d) new
 unfolding stopMask viaMask
-stop-more d t k old mid new hk a b = laid-as (nameAt d) (d * d) (viaMask mid d k t) _ old new (laid-then (nameAt d) (d * d) _ _ old mid new a b)
+stop-more d t k old mid new hk a b = laid-as 2 num2 two-local (nameAt d) (d * d) (viaMask mid d k t) _ old new (laid-then 2 num2 two-local (nameAt d) (d * d) _ _ old mid new a b)
     (λ i h. let hx : i / d < d = div-lt-iff-lt-mul (omega arith) .1 h in let hy : i % d < d = mod-lt i (omega arith) in
     ap₂ bitOr (at (i / d) (i % d) hx hy) (ap₂ bitAnd (at k (i % d) hk hy) (ap (λ n. bitAnd n t) (at (i / d) k hx hk))) ∙ stop-on old d t k (i / d) (i % d)
     ∙ ap (λ n. stopAt old d t n (i / d) (i % d)) (sym (add-one k)))
   where
     at : (x y : ℕ) → x < d → y < d → maskNo mid d (x * d + y) ≡ stopAt old d t k x y
-    at x y hx hy = a .masks (x * d + y) (omega (arith, row-below x d d hx)) ∙ ap₂ (λ u v. stopAt old d t k u v) (row-of d x y hy) (column-of d x y hy)
+    at x y hx hy = a .numbers (x * d + y) (omega (arith, row-below x d d hx)) ∙ ap₂ (λ u v. stopAt old d t k u v) (row-of d x y hy) (column-of d x y hy)
 
 -- ---- ancestors
 -- the mask c with the ancestors of its roles of t below n
@@ -255,11 +255,11 @@ raised-more m t u x anc new a p q h e = e ∙ rw (p, add-one u) (choice (has (bi
 
 -- one pair more
 pub raise-more : (d t i c v : ℕ) (a old mid : List ℕ) → i < d * d → lineLength d ≤ length old → c ≡ num2 mid (nameAt d + 2 * i) → v ≡ raisedTo c t a 16 → v < 65536
-    → Laid (nameAt d) (raisedMask old d t a) old i mid → Laid (nameAt d) (raisedMask old d t a) old (i + 1) (put2 mid (nameAt d + 2 * i) (v / 256 % 256) (v % 256))
+    → Masks (nameAt d) (raisedMask old d t a) old i mid → Masks (nameAt d) (raisedMask old d t a) old (i + 1) (put2 mid (nameAt d + 2 * i) (v / 256 % 256) (v % 256))
 unfolding raisedMask
 raise-more d t i c v a old mid h room p q hv l = let e : v / 256 % 256 * 256 + v % 256 ≡ v = omega arith in
-    laid-more (nameAt d) i _ _ (raisedMask old d t a) old mid (omega arith)
-    (e ∙ q ∙ ap (λ n. raisedTo n t a 16) (p ∙ laid-rest l (nameAt d + 2 * i) (inr (omega arith)))) l
+    mask-more (nameAt d) i _ _ (raisedMask old d t a) old mid (omega arith)
+    (e ∙ q ∙ ap (λ n. raisedTo n t a 16) (p ∙ laid-rest 2 num2 two-local l (nameAt d + 2 * i) (inr (omega arith)))) l
 
 -- ---- together they close the roles
 raised-is : (m : List ℕ) (d t : ℕ) (a : List ℕ) (x y : ℕ) → raisedTo (stopAt m d t d x y) t a 16 ≡ closedMask m d t a x y
@@ -316,10 +316,10 @@ module _ (m : List ℕ) (d t : ℕ) (a : List ℕ) where
   unfolding closedByte
   closed-short h p = rw (lt-leb _ _ h) refl
 
-  module _ (mid new : List ℕ) (bytes : Bytes new) (b : Laid (nameAt d) (stopMask m d t d) m (d * d) mid) (c : Laid (nameAt d) (raisedMask mid d t a) mid (d * d) new) where
+  module _ (mid new : List ℕ) (bytes : Bytes new) (b : Masks (nameAt d) (stopMask m d t d) m (d * d) mid) (c : Masks (nameAt d) (raisedMask mid d t a) mid (d * d) new) where
     closed-no : (i : ℕ) → i < d * d → maskNo new d i ≡ closedMask m d t a (i / d) (i % d)
     unfolding stopMask raisedMask
-    closed-no i h = c .masks i h ∙ ap (λ n. raisedTo n t a 16) (b .masks i h) ∙ raised-is m d t a (i / d) (i % d)
+    closed-no i h = c .numbers i h ∙ ap (λ n. raisedTo n t a 16) (b .numbers i h) ∙ raised-is m d t a (i / d) (i % d)
 
     pair-byte : (q : ℕ) → q < 2 * (d * d) → byteAt new (nameAt d + q) ≡ closedPair m d t a q
     pair-byte q h = go (q % 2) refl

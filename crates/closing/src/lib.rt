@@ -9,7 +9,7 @@ ghost use Rattle.logic.specs.Sets.{has};
 ghost use Rattle.parts.specs.Numbers.{byteAt};
 ghost use Rattle.lines.specs.Lines.{nameAt, lineLength};
 ghost use Rattle.closing.specs.Closing.{closedByte};
-ghost use Rattle.closing.specs.Laying.{Laid};
+ghost use Rattle.lines.specs.Laying.{Masks};
 ghost use Rattle.closing.specs.Steps.{joinMask, rowMask, viaMask, stopMask, raisedTo, raisedMask};
 use parts::mask2;
 use roles::has16;
@@ -17,7 +17,7 @@ use roles::has16;
 // The `n` masks at `at` take over the roles of `m` from the `n` masks at `from`.
 fn join_row(buf: &mut [u8], at: usize, from: usize, n: usize, m: u16)
     requires { ⌜ (at + 2 * n ≤ length (now buf)) × (from + 2 * n ≤ length (now buf)) × ((at ≤ from) ⊎ (from + 2 * n ≤ at)) ⌝ }
-    ensures { λ _. ⌜ Laid at (joinMask (now (buf .entry)) at from m) (now (buf .entry)) n (now (buf .exit)) ⌝ }
+    ensures { λ _. ⌜ Masks at (joinMask (now (buf .entry)) at from m) (now (buf .entry)) n (now (buf .exit)) ⌝ }
 {
     let high = (m / 256 % 256) as u8;
     let low = (m % 256) as u8;
@@ -36,7 +36,7 @@ fn join_row(buf: &mut [u8], at: usize, from: usize, n: usize, m: u16)
 // Row `x` takes over from row `k` the roles of `t` that the pair (`x`, `k`) has.
 fn join(buf: &mut [u8], n: usize, x: usize, k: usize, t: u16)
     requires { ⌜ (n < 256) × (x < n) × (k < n) × (lineLength n ≤ length (now buf)) ⌝ }
-    ensures { λ _. ⌜ Laid (nameAt n + 2 * (x * n)) (rowMask (now (buf .entry)) n x k t) (now (buf .entry)) n (now (buf .exit)) ⌝ }
+    ensures { λ _. ⌜ Masks (nameAt n + 2 * (x * n)) (rowMask (now (buf .entry)) n x k t) (now (buf .entry)) n (now (buf .exit)) ⌝ }
 {
     let at = 1 + 4 * n + 2 * (x * n);
     let m = mask2(buf, at + 2 * k) & t;
@@ -49,7 +49,7 @@ fn join(buf: &mut [u8], n: usize, x: usize, k: usize, t: u16)
 // Every row takes over from row `k`: the roles of `t` may stop at `k`.
 fn pass(buf: &mut [u8], n: usize, k: usize, t: u16)
     requires { ⌜ (n < 256) × (k < n) × (lineLength n ≤ length (now buf)) ⌝ }
-    ensures { λ _. ⌜ Laid (nameAt n) (viaMask (now (buf .entry)) n k t) (now (buf .entry)) (n * n) (now (buf .exit)) ⌝ }
+    ensures { λ _. ⌜ Masks (nameAt n) (viaMask (now (buf .entry)) n k t) (now (buf .entry)) (n * n) (now (buf .exit)) ⌝ }
 {
     let mut x = 0;
     while x < n {
@@ -61,7 +61,7 @@ fn pass(buf: &mut [u8], n: usize, k: usize, t: u16)
 // The roles of `t` are closed.
 fn close(buf: &mut [u8], n: usize, t: u16)
     requires { ⌜ (n < 256) × (lineLength n ≤ length (now buf)) ⌝ }
-    ensures { λ _. ⌜ Laid (nameAt n) (stopMask (now (buf .entry)) n t n) (now (buf .entry)) (n * n) (now (buf .exit)) ⌝ }
+    ensures { λ _. ⌜ Masks (nameAt n) (stopMask (now (buf .entry)) n t n) (now (buf .entry)) (n * n) (now (buf .exit)) ⌝ }
 {
     let mut k = 0;
     while k < n {
@@ -97,7 +97,7 @@ fn raised(m: u16, t: u16, a: [u16; 16]) -> u16
 // Every pair has the ancestors of its roles of `t`.
 fn raise(buf: &mut [u8], n: usize, t: u16, a: [u16; 16])
     requires { ⌜ (n < 256) × (lineLength n ≤ length (now buf)) ⌝ }
-    ensures { λ _. ⌜ Laid (nameAt n) (raisedMask (now (buf .entry)) n t a) (now (buf .entry)) (n * n) (now (buf .exit)) ⌝ }
+    ensures { λ _. ⌜ Masks (nameAt n) (raisedMask (now (buf .entry)) n t a) (now (buf .entry)) (n * n) (now (buf .exit)) ⌝ }
 {
     let size = n * n;
     let mut i = 0;

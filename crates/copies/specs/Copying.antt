@@ -14,16 +14,12 @@ use Rattle.logic.specs.Lists.{tabulate, length-tabulate, at-tabulate}
 use Rattle.logic.specs.Sums.{sumBelow, only, maxBelow}
 use Rattle.logic.specs.Sets.{has}
 use Rattle.logic.specs.SetLaws.{no-member}
-use Rattle.parts.specs.Numbers.{upTo, up-to-all}
+use Rattle.parts.specs.Numbers.{up-to-all}
 use Rattle.graph.specs.Graphs.{Edge, Node, edgesAt, total}
 use Rattle.graph.specs.Line.{copies, joins}
 use Rattle.evidence.specs.Evidence.{recordCount, recordAt, edgeIn, edgesIn, edgesPart, nodeIn, graphIn, mostEdges}
-use Rattle.edges.specs.EdgeSteps.{edgeStruct}
+use Rattle.edges.specs.EdgeSteps.{edgeCount, edgeStruct}
 use Rattle.edges.specs.declared.Edge as Code
-
--- how many edges of a slice are read
-abbrev pub edgeCount : List ℕ → ℕ
-edgeCount es = upTo mostEdges (length es / 5)
 
 -- the count of edge j, if it leads to y
 abbrev pub countTo : List ℕ → ℕ → ℕ → ℕ

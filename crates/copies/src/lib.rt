@@ -3,23 +3,16 @@ ghost use mathlib.Core.Path.{_≡_};
 ghost use Prim.Native.Nat.{_*_, _≤_, max};
 ghost use lib.Dec.{eqb};
 ghost use Rattle.logic.specs.Sums.{only, maxBelow};
-ghost use Rattle.copies.specs.Copying.{edgeCount, totalTo, copiesIn, ownerMask};
+ghost use Rattle.copies.specs.Copying.{totalTo, copiesIn, ownerMask};
 use edges::edge_at;
+use edges::edge_count;
 use evidence::record_edges;
-use parts::up_to;
 
 // The greater of two numbers.
 fn greater(a: usize, b: usize) -> usize
     ensures { λ r. ⌜ r ≡ max a b ⌝ }
 {
     if a < b { b } else { a }
-}
-
-// The number of edges of a slice, at most 32.
-fn edge_count(es: &[u8]) -> u8
-    ensures { λ r. ⌜ (r ≡ edgeCount (now (es .entry))) × (r ≤ 32) ⌝ }
-{
-    up_to(32, es.len() / 5)
 }
 
 // The count of an edge, if it leads to `y`.

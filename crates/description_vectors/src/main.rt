@@ -1,8 +1,9 @@
 // Runs the rows of each data file: a description in hexadecimal digits on a line, or a remark after '#'. Prints an answer for each.
-ghost use Prim.Native.Nat.{_<_, _≤_};
-ghost use lib.ListN.{length};
 use answers::Tested;
 use libc::STDOUT_FILENO;
+use vector_rows::decode;
+use vector_rows::is_remark;
+use vector_rows::mark_from;
 
 fn print_tested(t: Tested) {
     match t {
@@ -19,48 +20,9 @@ fn print_tested(t: Tested) {
     }
 }
 
-// The value of a digit, lower case.
-fn digit(c: u8) -> u8
-    ensures { λ r. ⌜ r < 16 ⌝ }
-{
-    if c < 58 { c % 16 } else { (c % 16 + 9) % 16 }
-}
-
-// The bytes that a line's digits say, as many as fit.
-fn decode(line: &[u8], out: &mut [u8]) -> usize
-    ensures { λ r. ⌜ r ≤ length (now (out .exit)) ⌝ }
-{
-    let mut i = 0;
-    while i < out.len() {
-        if line.len() < 2 * i + 2 {
-            return i;
-        }
-        out[i] = 16 * digit(line[2 * i]) + digit(line[2 * i + 1]);
-        i += 1;
-    }
-    i
-}
-
-// Where the line ends that holds `from`.
-fn line_end(all: &[u8], from: usize) -> usize
-    requires { ⌜ from ≤ length (now all) ⌝ }
-    ensures { λ r. ⌜ (from ≤ r) × (r ≤ length (now (all .entry))) ⌝ }
-{
-    let mut end = from;
-    while end < all.len() {
-        if all[end] == 10 {
-            return end;
-        }
-        end += 1;
-    }
-    end
-}
-
 fn run_line(line: &[u8]) {
-    if 0 < line.len() {
-        if line[0] == 35 {
-            return;
-        }
+    if is_remark(line) {
+        return;
     }
     let mut space = [0; 512];
     let n = decode(line, &mut space);
@@ -70,7 +32,7 @@ fn run_line(line: &[u8]) {
 fn run(all: &[u8]) {
     let mut at = 0;
     while at < all.len() {
-        let end = line_end(all, at);
+        let end = mark_from(all, at, b'\n');
         run_line(&all[at..end]);
         at = end + 1;
     }

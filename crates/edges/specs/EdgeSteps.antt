@@ -18,8 +18,12 @@ use Rattle.tables.specs.Tables.{describe}
 use Rattle.roles.specs.Ancestors.{AncestorsOf, ancestor-masks}
 use Rattle.graph.specs.Graphs.{Edge}
 use Rattle.graph.specs.GraphTests.{storedGraph, edgeTest}
-use Rattle.evidence.specs.Evidence.{edgeIn, edgesIn}
+use Rattle.evidence.specs.Evidence.{mostEdges, edgeIn, edgesIn}
 use Rattle.edges.specs.declared.Edge as Code
+
+-- the number of edges of the bytes es, at most 32
+abbrev pub edgeCount : List ℕ → ℕ
+edgeCount es = upTo mostEdges (length es / 5)
 
 -- the code's edge j
 abbrev pub edgeStruct : List ℕ → ℕ → Code.Edge
@@ -35,7 +39,7 @@ edgeCode a n size E = (ltb (E .target) size && (nonempty (E .mask) && (narrow (E
 
 -- of all edges of the slice, at most 32
 abbrev pub edgesCode : List ℕ → ℕ → ℕ → List ℕ → Bool
-edgesCode a n size es = allBelow (upTo 32 (length es / 5)) (λ j. edgeCode a n size (edgeStruct es j))
+edgesCode a n size es = allBelow (edgeCount es) (λ j. edgeCode a n size (edgeStruct es j))
 
 -- ---- it is the test of the edge
 module _ (rs cs qs a : List ℕ) (anc : AncestorsOf rs a) (few : length rs / 3 ≤ 16) where
@@ -60,11 +64,11 @@ module _ (rs cs qs a : List ℕ) (anc : AncestorsOf rs a) (few : length rs / 3 �
       c : ℕ
       c = num2 es (5 * j + 3)
 
-  pub edges-are : ((r s : ℕ) → r < D .roles → So (ancestor D r s) → s < D .roles) → (size : ℕ) (es : List ℕ) → length es / 5 ≤ 32
+  pub edges-are : ((r s : ℕ) → r < D .roles → So (ancestor D r s) → s < D .roles) → (size : ℕ) (es : List ℕ) → length es / 5 ≤ mostEdges
       → edgesCode a (length rs / 3) size es ≡ each (edgesIn es) (edgeTest storedGraph D size)
-  edges-are inside size es short = ap (λ k. allBelow k (λ j. edgeCode a (length rs / 3) size (edgeStruct es j))) (up-to-all 32 (length es / 5) short) ∙ all-cong (length es / 5) _ _ (λ j _. edge-is inside size es j) ∙ each-tabulate (length es / 5) (edgeIn es) (edgeTest storedGraph D size)
+  edges-are inside size es short = ap (λ k. allBelow k (λ j. edgeCode a (length rs / 3) size (edgeStruct es j))) (up-to-all mostEdges (length es / 5) short) ∙ all-cong (length es / 5) _ _ (λ j _. edge-is inside size es j) ∙ each-tabulate (length es / 5) (edgeIn es) (edgeTest storedGraph D size)
 
 -- ---- a law for the code
-pub edges-read : (es a : List ℕ) (roles size k n : ℕ) → k ≡ upTo 32 (length es / 5) → n ≡ upTo 16 roles
+pub edges-read : (es a : List ℕ) (roles size k n : ℕ) → k ≡ edgeCount es → n ≡ upTo 16 roles
     → allBelow k (λ j. edgeCode a n size (edgeStruct es j)) ≡ edgesCode a (upTo 16 roles) size es
 edges-read es a roles size k n p q = rw (p, q) refl

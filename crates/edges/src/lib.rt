@@ -6,7 +6,7 @@ ghost use Rattle.logic.specs.Tests.{_⇒_};
 ghost use Rattle.logic.specs.Bounded.{allBelow};
 ghost use Rattle.logic.specs.Sets.{has, narrow, within};
 ghost use Rattle.parts.specs.Numbers.{upTo};
-ghost use Rattle.edges.specs.EdgeSteps.{edgeStruct, upwardAt, edgeCode, edgesCode};
+ghost use Rattle.edges.specs.EdgeSteps.{edgeCount, edgeStruct, upwardAt, edgeCode, edgesCode};
 use parts::byte;
 use parts::mask2;
 use parts::read2;
@@ -18,6 +18,13 @@ pub struct Edge {
     pub target: u8,
     pub mask: u16,
     pub count: usize,
+}
+
+// The number of edges of `es`, or 32 if there are more.
+pub fn edge_count(es: &[u8]) -> u8
+    ensures { λ r. ⌜ (r ≡ edgeCount (now (es .entry))) × (r ≤ 32) ⌝ }
+{
+    up_to(32, es.len() / 5)
 }
 
 // Edge `j`; bytes past the end count as 0.
@@ -87,5 +94,5 @@ fn edges_hold(es: &[u8], k: u8, a: [u16; 16], n: u8, size: u8) -> bool
 pub fn edges_ok(es: &[u8], a: [u16; 16], roles: usize, size: u8) -> bool
     ensures { λ q. ⌜ q ≡ edgesCode a (upTo 16 roles) size (now (es .entry)) ⌝ }
 {
-    edges_hold(es, up_to(32, es.len() / 5), a, up_to(16, roles), size)
+    edges_hold(es, edge_count(es), a, up_to(16, roles), size)
 }

@@ -25,8 +25,8 @@ use Rattle.graph.specs.Graphs.{Edge, ofRole, total, counted, EdgeOk, Passes, Ev
 use Rattle.graph.specs.GraphTests.{storedGraph, edgeTest, everyTest, countTest, edge↔, every↔}
 use Rattle.evidence.specs.Evidence.{edgeIn, edgesIn, labelOf}
 use Rattle.nodes.specs.NodeSteps.{opposed, entryCount}
-use Rattle.edges.specs.EdgeSteps.{edgeStruct}
-use Rattle.fillers.specs.FillerSteps.{edgeCount, decides, share, allDecide, fillers, everysCode, leastAt, countsCode}
+use Rattle.edges.specs.EdgeSteps.{edgeCount, edgeStruct}
+use Rattle.fillers.specs.FillerSteps.{decides, share, allDecide, fillers, everysCode, leastAt, countsCode}
 
 -- ---- lists that are tabulated
 in-tabulate : {A : Type 0} (n : ℕ) (f : ℕ → A) (x : A) → x ∈ tabulate n f → (i : ℕ) × (i < n) × (f i ≡ x)

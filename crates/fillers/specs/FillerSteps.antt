@@ -1,5 +1,5 @@
 -- Rules 14 and 15 of a graph's record as the code tests them: on the bytes of its edges, with the labels of their targets read in place.
-use Prim.Native.Nat.{ℕ, _+_, _*_, _/_, _%_, _≤_}
+use Prim.Native.Nat.{ℕ, _+_, _*_, _%_, _≤_}
 use mathlib.Core.Path.{_≡_, refl, sym, _∙_, ap}
 use mathlib.Core.Bool.{Bool, true, false, not, _&&_, _||_}
 use mathlib.Core.List.{List}
@@ -7,12 +7,12 @@ use native.Mathlib.Omega.{arith}
 use native.Mathlib.Numerals.{add-one}
 use borrow.Author.Tests.{ne-eqb}
 use lib.Dec.{eqb, leb, ltb}
-use lib.ListN.{length, getD}
+use lib.ListN.{getD}
 use Rattle.logic.specs.Tests.{_⇒_}
 use Rattle.logic.specs.Bounded.{allBelow, anyBelow}
 use Rattle.logic.specs.Sums.{sumBelow, only}
 use Rattle.logic.specs.Sets.{has}
-use Rattle.parts.specs.Numbers.{byteAt, upTo}
+use Rattle.parts.specs.Numbers.{byteAt}
 use Rattle.description.specs.Literals.{code}
 use Rattle.description.specs.Descriptions.{Entry, top, name, both, every, atLeast, Fields, entryOfFields, byKind, ifEvery, ifLeast}
 use Rattle.tables.specs.Tables.{fieldsAt}
@@ -23,11 +23,7 @@ use Rattle.tables.specs.declared.Concept.the-variants.{Top, Name, Both, Every, 
 use Rattle.nodes.specs.NodeSteps.{opposed, entryCount}
 use Rattle.evidence.specs.Evidence.{labelOf}
 use Rattle.edges.specs.declared.Edge.{Edge}
-use Rattle.edges.specs.EdgeSteps.{edgeStruct}
-
--- the number of edges of the bytes es, at most 32
-abbrev pub edgeCount : List ℕ → ℕ
-edgeCount es = upTo 32 (length es / 5)
+use Rattle.edges.specs.EdgeSteps.{edgeCount, edgeStruct}
 
 -- ---- one edge, for a role r and a literal l
 -- it is of role r, and its target's label has l

@@ -8,17 +8,17 @@ ghost use Rattle.logic.specs.Sets.{has};
 ghost use Rattle.labels.specs.Labels.{valueOf};
 ghost use Rattle.tables.specs.Tables.{fieldsAt};
 ghost use Rattle.edges.specs.EdgeSteps.{edgeStruct};
-ghost use Rattle.fillers.specs.FillerSteps.{edgeCount, leads, keeps, decides, share, allHave, someHas, allDecide, fillers};
+ghost use Rattle.fillers.specs.FillerSteps.{leads, keeps, decides, share, allHave, someHas, allDecide, fillers};
 ghost use Rattle.fillers.specs.FillerSteps.{everyAbove, hasAbove, carried, everyHolds, everyAt, everysCode, leastHolds, leastAt, countsCode};
 use edges::Edge;
 use edges::edge_at;
+use edges::edge_count;
 use evidence::record_label;
 use labels::Label;
 use labels::holds;
 use nodes::entry_count;
 use nodes::opposite;
 use parts::byte;
-use parts::up_to;
 use roles::has16;
 use tables::Concept;
 use tables::Count;
@@ -26,13 +26,6 @@ use tables::EntryNo;
 use tables::RoleNo;
 use tables::concept_at;
 use tables::fields_at;
-
-// The number of edges of `es`, or 32 if there are more.
-fn edge_count(es: &[u8]) -> u8
-    ensures { λ r. ⌜ (r ≡ edgeCount (now (es .entry))) × (r ≤ 32) ⌝ }
-{
-    up_to(32, es.len() / 5)
-}
 
 // Whether the edge is of role `r` and leads to a label with `l`.
 fn leads_to(s: &[u8], e: Edge, r: RoleNo, l: u8) -> bool

@@ -1,3 +1,4 @@
 pub mod GraphEvidence
 pub mod GraphSteps
 pub mod GraphJoin
+pub mod Examples

@@ -1,7 +1,7 @@
 pub mod Writing
-pub mod Laying
 pub mod WriteSteps
 pub mod WriteJoin
 pub mod WriteBytes
 pub mod WriteOrder
 pub mod ReadBack
+pub mod Examples

@@ -1,7 +1,7 @@
 -- The buffer that the code leaves has the bytes of the line of the graph, and then the old ones.
 use Prim.Native.Nat.{ℕ, _+_, _-_, _*_, _/_, _%_, _≤_, _<_}
-use mathlib.Core.Path.{_≡_, refl, sym, _∙_, ap, ap₂}
-use mathlib.Core.Logic.{_↔_}
+use mathlib.Core.Path.{_≡_, refl, sym, _∙_, ap}
+use mathlib.Core.Logic.{_↔_, inl, inr}
 use mathlib.Core.Bool.{Bool, true, false, _&&_}
 use mathlib.Core.List.{List, _++_}
 use native.Mathlib.Omega.{arith}
@@ -12,7 +12,7 @@ use lib.Dec.{eqb}
 use lib.ListN.{length, drop, getD, set}
 use Rattle.logic.specs.Tests.{So}
 use Rattle.logic.specs.Sets.{has, setOf}
-use Rattle.logic.specs.SetLaws.{lt-has, setOf-cong, setOf↔}
+use Rattle.logic.specs.SetLaws.{setOf-cong, setOf↔}
 use Rattle.parts.specs.Numbers.{byteAt, up-to-all}
 use Rattle.description.specs.Literals.{members}
 use Rattle.description.specs.Descriptions.{Description, isName}
@@ -27,35 +27,38 @@ use Rattle.closing.specs.Closing.{maskAt, closedMask, closedByte}
 use Rattle.graph.specs.Graphs.{Keeps}
 use Rattle.graph.specs.Line.{copies, joins, direct, line}
 use Rattle.graph.specs.Copies.{copies-pos}
-use Rattle.lines.specs.Lines.{nameAt, pairAt, lineLength, nameMask, roleMask, byteOf, lineByte, pairByte, lineBytes}
-use Rattle.lines.specs.LineLaws.{pair-below, pair-row, pair-column, two-bytes, byte-size, byte-names, byte-pairs, written}
+use Rattle.lines.specs.Lines.{nameAt, lineLength, nameMask, roleMask, byteOf, lineByte, pairByte, lineBytes}
+use Rattle.lines.specs.LineLaws.{pair-below, pair-row, pair-column, byte-size, byte-names, byte-pairs, written}
 use Rattle.graph_check.specs.GraphEvidence.{wanted}
-use Rattle.line_writer.specs.Laying.{Laid, laid-byte}
-use Rattle.line_writer.specs.WriteSteps.{namesIn, namesByte, transitivesIn, rowsByte}
-use Rattle.line_writer.specs.WriteJoin.{direct-in, closed, closed-is}
+use Rattle.labels.specs.Labels.{num4}
+use Rattle.lines.specs.Laying.{Laid, Masks, Names, Bytes, four-local, byte-of-four, laid-one}
+use Rattle.line_writer.specs.WriteSteps.{namesIn, elementNames, transitivesIn, directMasks}
+use Rattle.line_writer.specs.WriteJoin.{closed, closed-is}
 
 -- what the code leaves in a buffer: the number of elements, then the name masks, then the direct pairs, then these closed
 pub record LaidLine (rs cs s a : List ℕ) (k d : ℕ) (old new : List ℕ) : Type 0 where
   pub counted : List ℕ
   pub named : List ℕ
   pub direct : List ℕ
-  pub count : Laid (λ p. d) 0 1 old counted
-  pub names : Laid (namesByte cs s k) 1 (nameAt d) counted named
-  pub rows : Laid (rowsByte s k d) (nameAt d) (lineLength d) named direct
+  pub count : Laid 1 byteAt 0 (λ i. d) old 1 counted
+  pub names : Names 1 (elementNames cs s k) counted d named
+  pub rows : Masks (nameAt d) (directMasks s k d) named (d * d) direct
+  pub small : Bytes direct
   pub size : length new ≡ length direct
   pub bytes : (p : ℕ) → byteAt new p ≡ closedByte direct d (transitivesIn rs) a p
 
 -- the code's four steps
 pub lay-steps : (rs cs s a : List ℕ) (k d t : ℕ) (old named direct new : List ℕ) → 0 < length old → t ≡ transitivesIn rs
-    → Laid (namesByte cs s k) 1 (nameAt d) (set old 0 d) named → Laid (rowsByte s k d) (nameAt d) (lineLength d) named direct
+    → Names 1 (elementNames cs s k) (set old 0 d) d named → Masks (nameAt d) (directMasks s k d) named (d * d) direct → Bytes direct
     → (length new ≡ length direct) × ((p : ℕ) → byteAt new p ≡ closedByte direct d t a p) → LaidLine rs cs s a k d old new
-lay-steps rs cs s a k d t old named direct new some e n r c = record {
+lay-steps rs cs s a k d t old named direct new some e n r b c = record {
   counted = set old 0 d;
   named = named;
   direct = direct;
-  count = laid-byte (λ p. d) 0 1 d old refl some refl;
+  count = laid-one old 0 d some;
   names = n;
   rows = r;
+  small = b;
   size = c .0;
   bytes = λ p. c .1 p ∙ ap (λ m. closedByte direct d m a p) e;
 }
@@ -92,18 +95,9 @@ module _ (rs cs qs : List ℕ) (A : Accepted (describe rs cs qs)) (few : length 
       ∙ ap (λ es. joins es (y / k) (y % k) r) (sym (edges-there s head formed (x / k) (node-in x h)))
 
   -- a buffer b with the direct pairs as its role masks
-  module _ (b mid : List ℕ) (rows : Laid (rowsByte s k d) (nameAt d) (lineLength d) mid b) where
+  module _ (b mid : List ℕ) (rows : Masks (nameAt d) (directMasks s k d) mid (d * d) b) where
     mask-is : (x y : ℕ) → x < d → y < d → maskAt b d x y ≡ ownerMask (edgesPart s (x / k)) (y / k) (y % k)
-    mask-is x y hx hy = ap₂ (λ (a b : ℕ). a * 256 + b) (at _ 0 (omega arith) (omega arith)) (at _ 1 refl (omega arith))
-        ∙ two-bytes m (lt-has 16 m (λ r u. let z = direct-in D A few (wanted D) (graphIn s) keeps r x y hx (sym (direct-is x y hx r) ∙ u) in omega arith))
-      where
-        m : ℕ
-        m = ownerMask (edgesPart s (x / k)) (y / k) (y % k)
-
-        at : (p i : ℕ) → p ≡ pairAt d x y + i → i < 2 → byteAt b p ≡ byteOf 2 m i
-        at p i e hi =
-            let h : (p - nameAt d) / 2 ≡ x * d + y = omega arith in let o : (p - nameAt d) % 2 ≡ i = omega arith in
-            rows .inside p (omega arith) (omega (arith, pair-below d x y hx hy)) ∙ rw (h, o, pair-row d x y hy, pair-column d x y hy) refl
+    mask-is x y hx hy = rows .numbers (x * d + y) (pair-below d x y hx hy) ∙ rw (pair-row d x y hy, pair-column d x y hy) refl
 
     -- the mask of the transitive roles, and the table of ancestors
     module _ (t : ℕ) (transitive : (r : ℕ) → So (has t r) ↔ ((r < D .roles) × So (D .transitive r)))
@@ -131,7 +125,7 @@ module _ (rs cs qs : List ℕ) (A : Accepted (describe rs cs qs)) (few : length 
           some = omega (arith, mul-le-mul (keeps .some-node) (copies-pos (graphIn s)))
 
       pub line-written : (old new : List ℕ) → length b ≡ length old → lineLength d ≤ length old → byteAt b 0 ≡ d
-          → ((p : ℕ) → 1 ≤ p → p < nameAt d → byteAt b p ≡ namesByte cs s k p)
+          → ((p : ℕ) → 1 ≤ p → p < nameAt d → byteAt b p ≡ byteOf 4 (elementNames cs s k ((p - 1) / 4)) ((p - 1) % 4))
           → ((p : ℕ) → lineLength d ≤ p → byteAt b p ≡ byteAt old p)
           → length new ≡ length b → ((p : ℕ) → byteAt new p ≡ closedByte b d t a p)
           → new ≡ lineBytes D (line D (graphIn s)) ++ drop (lineLength d) old
@@ -157,11 +151,20 @@ module _ (rs cs qs : List ℕ) (A : Accepted (describe rs cs qs)) (few : length 
   unfolding transitivesIn
   laid-line a old new anc room L = line-written (L .direct) (L .named) (L .rows) (transitivesIn rs) transitive a
       (λ r h. ancestor-masks rs cs qs a anc few r (omega arith)) old new
-      (L .rows .size ∙ L .names .size ∙ L .count .size) room
-      (L .rows .before 0 (omega arith) ∙ L .names .before 0 (omega arith) ∙ L .count .inside 0 (omega arith) (omega arith))
-      (λ p h g. L .rows .before p g ∙ L .names .inside p h g)
-      (λ p h. L .rows .after p h ∙ L .names .after p (omega arith) ∙ L .count .after p (omega arith))
+      (L .rows .whole ∙ L .names .whole ∙ L .count .whole) room
+      (L .rows .others 0 (inl (omega arith)) ∙ L .names .others 0 (inl (omega arith)) ∙ L .count .numbers 0 (omega arith))
+      name-byte
+      (λ p h. L .rows .others p (inr h) ∙ L .names .others p (inr (omega arith)) ∙ L .count .others p (inr (omega arith)))
       (L .size) (L .bytes)
     where
       transitive : (r : ℕ) → So (has (transitivesIn rs) r) ↔ ((r < D .roles) × So (D .transitive r))
       transitive r = rw (up-to-all 16 (length rs / 3) few) (setOf↔ (length rs / 3) (λ r. eqb (byteAt rs (3 * r)) 1) r)
+
+      -- name masks lie before the rows
+      name-there : (z : ℕ) → z < d → num4 (L .direct) (1 + 4 * z) ≡ elementNames cs s k z
+      name-there z h = four-local (L .direct) (L .named) (1 + 4 * z) (λ q a b. L .rows .others q (inl (omega arith))) ∙ L .names .numbers z h
+
+      name-byte : (p : ℕ) → 1 ≤ p → p < nameAt d → byteAt (L .direct) p ≡ byteOf 4 (elementNames cs s k ((p - 1) / 4)) ((p - 1) % 4)
+      name-byte p h g = let z : 1 + 4 * ((p - 1) / 4) + (p - 1) % 4 ≡ p = omega arith in
+          ap (byteAt (L .direct)) (sym z) ∙ byte-of-four (L .direct) (1 + 4 * ((p - 1) / 4)) ((p - 1) % 4) (L .small) (omega arith)
+          ∙ ap (λ m. byteOf 4 m ((p - 1) % 4)) (name-there ((p - 1) / 4) (omega arith))

@@ -1,17 +1,17 @@
 // Writes the line of a graph.
 ghost use mathlib.Core.Path.{_≡_};
-ghost use Prim.Native.Nat.{_+_, _*_, _-_, _≤_, _<_};
+ghost use Prim.Native.Nat.{_+_, _*_, _^_, _≤_, _<_};
 ghost use Rattle.labels.specs.Labels.{valueOf};
 ghost use lib.ListN.{length};
 ghost use Rattle.tables.specs.Tables.{describe};
 ghost use Rattle.answers.specs.Answers.{ofWritten, lengthOf};
-ghost use Rattle.lines.specs.Lines.{nameAt, lineLength, byteOf};
-ghost use Rattle.line_writer.specs.Laying.{Laid};
+ghost use Rattle.lines.specs.Lines.{nameAt, lineLength};
+ghost use Rattle.lines.specs.Laying.{Masks, Names};
 ghost use Rattle.evidence.specs.Evidence.{recordCount};
 ghost use Rattle.line_writer.specs.WriteBytes.{LaidLine};
 ghost use Rattle.line_writer.specs.WriteOrder.{Told, roomIn, Wrote, partsRefused};
 ghost use Rattle.line_writer.specs.Writing.{writeAnswer, writeLength, bufferAfter};
-ghost use Rattle.line_writer.specs.WriteSteps.{nameIn, namesIn, namesByte, transitivesIn, rowByte, rowsByte};
+ghost use Rattle.line_writer.specs.WriteSteps.{nameIn, namesIn, elementNames, transitivesIn, rowMasks, directMasks};
 use answers::Tested;
 use answers::Written;
 use closing::close_roles;
@@ -34,7 +34,7 @@ use words::put;
 // The two bytes of the mask `m` at `at`, high byte first.
 fn put2(buf: &mut [u8], at: usize, m: u16)
     requires { ⌜ at + 2 ≤ length (now buf) ⌝ }
-    ensures { λ _. ⌜ Laid (λ p. byteOf 2 m (p - at)) at (at + 2) (now (buf .entry)) (now (buf .exit)) ⌝ }
+    ensures { λ _. ⌜ Masks at (λ i. m) (now (buf .entry)) 1 (now (buf .exit)) ⌝ }
 {
     buf[at] = (m / 256 % 256) as u8;
     buf[at + 1] = (m % 256) as u8;
@@ -42,8 +42,8 @@ fn put2(buf: &mut [u8], at: usize, m: u16)
 
 // The four bytes of the name mask `m` at `at`, high byte first.
 fn put4(buf: &mut [u8], at: usize, m: u64)
-    requires { ⌜ at + 4 ≤ length (now buf) ⌝ }
-    ensures { λ _. ⌜ Laid (λ p. byteOf 4 m (p - at)) at (at + 4) (now (buf .entry)) (now (buf .exit)) ⌝ }
+    requires { ⌜ (at + 4 ≤ length (now buf)) × (m < 2 ^ 32) ⌝ }
+    ensures { λ _. ⌜ Names at (λ i. m) (now (buf .entry)) 1 (now (buf .exit)) ⌝ }
 {
     buf[at] = (m / 16777216 % 256) as u8;
     buf[at + 1] = (m / 65536 % 256) as u8;
@@ -61,7 +61,7 @@ fn name_in(cs: &[u8], x: Label, e: EntryNo) -> bool
 
 // The name entries that the label holds.
 fn name_mask(cs: &[u8], x: Label) -> u64
-    ensures { λ r. ⌜ r ≡ namesIn (now (cs .entry)) (valueOf x) ⌝ }
+    ensures { λ r. ⌜ (r ≡ namesIn (now (cs .entry)) (valueOf x)) × (r < 2 ^ 32) ⌝ }
 {
     let n = entry_count(cs);
     let mut out: u64 = 0;
@@ -76,7 +76,7 @@ fn name_mask(cs: &[u8], x: Label) -> u64
 // The name masks of `d` elements, `k` copies of each record.
 fn lay_names(buf: &mut [u8], cs: &[u8], s: &[u8], d: u8, k: u8)
     requires { ⌜ (1 ≤ k) × (nameAt d ≤ length (now buf)) ⌝ }
-    ensures { λ _. ⌜ Laid (namesByte (now (cs .entry)) (now (s .entry)) k) 1 (nameAt d) (now (buf .entry)) (now (buf .exit)) ⌝ }
+    ensures { λ _. ⌜ Names 1 (elementNames (now (cs .entry)) (now (s .entry)) k) (now (buf .entry)) d (now (buf .exit)) ⌝ }
 {
     let mut z: u8 = 0;
     while z < d {
@@ -89,7 +89,7 @@ fn lay_names(buf: &mut [u8], cs: &[u8], s: &[u8], d: u8, k: u8)
 // The row at `at`: the direct pairs from a copy of a record with the edges `es` to `d` elements, `k` copies of each record.
 fn lay_row(buf: &mut [u8], at: usize, es: &[u8], d: u8, k: u8)
     requires { ⌜ (1 ≤ k) × (at + 2 * d ≤ length (now buf)) ⌝ }
-    ensures { λ _. ⌜ Laid (rowByte (now (es .entry)) k at) at (at + 2 * d) (now (buf .entry)) (now (buf .exit)) ⌝ }
+    ensures { λ _. ⌜ Masks at (rowMasks (now (es .entry)) k) (now (buf .entry)) d (now (buf .exit)) ⌝ }
 {
     let mut w: u8 = 0;
     while w < d {
@@ -102,7 +102,7 @@ fn lay_row(buf: &mut [u8], at: usize, es: &[u8], d: u8, k: u8)
 // The rows of the direct pairs of `d` elements, `k` copies of each record.
 fn lay_rows(buf: &mut [u8], s: &[u8], d: u8, k: u8)
     requires { ⌜ (1 ≤ k) × (lineLength d ≤ length (now buf)) ⌝ }
-    ensures { λ _. ⌜ Laid (rowsByte (now (s .entry)) k d) (nameAt d) (lineLength d) (now (buf .entry)) (now (buf .exit)) ⌝ }
+    ensures { λ _. ⌜ Masks (nameAt d) (directMasks (now (s .entry)) k d) (now (buf .entry)) (d * d) (now (buf .exit)) ⌝ }
 {
     let mut at = 1 + 4 * (d as usize);
     let mut z: u8 = 0;

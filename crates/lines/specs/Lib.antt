@@ -1,3 +1,4 @@
 pub mod Lines
 pub mod Alike
 pub mod LineLaws
+pub mod Laying

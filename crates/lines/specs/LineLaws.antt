@@ -37,6 +37,14 @@ pair-column d x y h = mul-add-mod-self-right x d y ∙ mod-eq-of-lt h
 pub two-bytes : (n : ℕ) → n < 2 ^ 16 → byteOf 2 n 0 * 256 + byteOf 2 n 1 ≡ n
 two-bytes n h = omega arith
 
+-- and four
+pub four-bytes : (n : ℕ) → n < 2 ^ 32 → block 16 (byteOf 4 n 0 * 256 + byteOf 4 n 1) (byteOf 4 n 2 * 256 + byteOf 4 n 3) ≡ n
+four-bytes n h =
+    let a : n / 65536 ≡ n / 256 / 256 = sym (div-div-eq-div-mul n 256 256) in let b : n / 16777216 ≡ n / 65536 / 256 = sym (div-div-eq-div-mul n 65536 256) in
+    let p : n ≡ n / 256 * 256 + n % 256 = omega arith in let q : n / 256 ≡ n / 65536 * 256 + n / 256 % 256 = rw a (omega arith) in
+    let r : n / 65536 ≡ n / 16777216 * 256 + n / 65536 % 256 = rw b (omega arith) in let s : n / 16777216 < 256 = omega arith in
+    let t : n / 16777216 % 256 ≡ n / 16777216 = mod-eq-of-lt s in let u : n / 1 ≡ n = div-one n in rw (t, u) (omega arith)
+
 module _ (D : Description) (I : Interpretation) where
   pub byte-size : lineByte D I 0 ≡ I .size
   unfolding lineByte
@@ -88,20 +96,13 @@ module _ (D : Description) (I : Interpretation) where
 
   pub name-back : (x : ℕ) → D .entries ≤ 32 → x < I .size → num4 (lineBytes D I) (nameAt x) ≡ nameMask D I x
   name-back x few hx = ap₂ (block 16) (ap₂ pair (at _ 0 (omega arith) (omega arith)) (at _ 1 refl (omega arith))) (ap₂ pair (at _ 2 refl (omega arith)) (at _ 3 (omega arith) (omega arith)))
-      ∙ four (nameMask D I x) (set-below (D .entries) 32 (λ e. isName (D .entry e) && I .name e x) few)
+      ∙ four-bytes (nameMask D I x) (set-below (D .entries) 32 (λ e. isName (D .entry e) && I .name e x) few)
     where
       pair : ℕ → ℕ → ℕ
       pair a b = a * 256 + b
 
       at : (p i : ℕ) → p ≡ nameAt x + i → i < 4 → byteAt (lineBytes D I) p ≡ byteOf 4 (nameMask D I x) i
       at p i e hi = rw e (byte-line (nameAt x + i) (omega arith) ∙ byte-name x i hx hi)
-
-      four : (n : ℕ) → n < 2 ^ 32 → block 16 (byteOf 4 n 0 * 256 + byteOf 4 n 1) (byteOf 4 n 2 * 256 + byteOf 4 n 3) ≡ n
-      four n h =
-          let a : n / 65536 ≡ n / 256 / 256 = sym (div-div-eq-div-mul n 256 256) in let b : n / 16777216 ≡ n / 65536 / 256 = sym (div-div-eq-div-mul n 65536 256) in
-          let p : n ≡ n / 256 * 256 + n % 256 = omega arith in let q : n / 256 ≡ n / 65536 * 256 + n / 256 % 256 = rw a (omega arith) in
-          let r : n / 65536 ≡ n / 16777216 * 256 + n / 65536 % 256 = rw b (omega arith) in let s : n / 16777216 < 256 = omega arith in
-          let t : n / 16777216 % 256 ≡ n / 16777216 = mod-eq-of-lt s in let u : n / 1 ≡ n = div-one n in rw (t, u) (omega arith)
 
   -- the bytes are the interpretation
   pub back : D .entries ≤ 32 → D .roles ≤ 16 → Alike D I (lineIn (lineBytes D I))

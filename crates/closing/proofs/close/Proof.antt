@@ -2,7 +2,7 @@ use Prim.Native.Nat.{_*_, _-_, _≤_}
 use mathlib.Core.Path.{_≡_}
 use native.Mathlib.Omega.{arith}
 use Rattle.lines.specs.Lines.{nameAt}
-use Rattle.closing.specs.Laying.{Laid}
+use Rattle.lines.specs.Laying.{Masks}
 use Rattle.closing.specs.Steps.{stopMask, stop-start, stop-more}
 use Rattle.closing.proofs.close.Statement.{statement}
 use Rattle.closing.proofs.close.Tie as tie
@@ -11,7 +11,7 @@ use Rattle.closing.proofs.close.Lts as lts
 use Rattle.closing.proofs.pass.Reads as pass-reads
 
 abbrev Inv-loop : tie.InvT-loop
-Inv-loop buf₀ n t k₀ buf k = (k ≤ n) × Laid (nameAt n) (stopMask buf₀ n t k) buf₀ (n * n) buf
+Inv-loop buf₀ n t k₀ buf k = (k ≤ n) × Masks (nameAt n) (stopMask buf₀ n t k) buf₀ (n * n) buf
 
 abbrev μ-loop : tie.MeasureT-loop
 μ-loop buf₀ n t k₀ buf k = n - k

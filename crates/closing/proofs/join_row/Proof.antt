@@ -1,8 +1,9 @@
+use Rattle.parts.specs.Numbers.{num2}
 use Prim.Native.Nat.{_-_, _≤_}
 use mathlib.Core.Path.{_≡_}
 use native.Mathlib.Omega.{arith}
 use lib.ListN.{length-set}
-use Rattle.closing.specs.Laying.{Laid, laid-none}
+use Rattle.lines.specs.Laying.{Masks, laid-none, two-local}
 use Rattle.closing.specs.Steps.{joinMask, join-more}
 use Rattle.closing.proofs.join_row.Statement.{statement}
 use Rattle.closing.proofs.join_row.Tie as tie
@@ -10,7 +11,7 @@ use Rattle.closing.proofs.join_row.Reads as reads
 use Rattle.closing.proofs.join_row.Lts as lts
 
 abbrev Inv-loop : tie.InvT-loop
-Inv-loop buf₀ at from n m high low y₀ buf y = (y ≤ n) × Laid at (joinMask buf₀ at from m) buf₀ y buf
+Inv-loop buf₀ at from n m high low y₀ buf y = (y ≤ n) × Masks at (joinMask buf₀ at from m) buf₀ y buf
 
 abbrev μ-loop : tie.MeasureT-loop
 μ-loop buf₀ at from n m high low y₀ buf y = n - y
@@ -22,7 +23,7 @@ cast-low : tie.Need-cast-low Inv-loop μ-loop
 cast-low c = omega arith
 
 loop-holds : tie.Need-loop-holds Inv-loop μ-loop
-loop-holds c = (omega arith, laid-none _ _ _)
+loop-holds c = (omega arith, laid-none 2 num2 two-local _ _ _)
 
 mul-i : tie.Need-mul-i Inv-loop μ-loop
 mul-i c = omega arith

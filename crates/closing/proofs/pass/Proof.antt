@@ -2,7 +2,7 @@ use Prim.Native.Nat.{_*_, _-_, _≤_}
 use mathlib.Core.Path.{_≡_}
 use native.Mathlib.Omega.{arith}
 use Rattle.lines.specs.Lines.{nameAt}
-use Rattle.closing.specs.Laying.{Laid}
+use Rattle.lines.specs.Laying.{Masks}
 use Rattle.closing.specs.Steps.{viaMask, pass-start, pass-more}
 use Rattle.closing.proofs.pass.Statement.{statement}
 use Rattle.closing.proofs.pass.Tie as tie
@@ -11,7 +11,7 @@ use Rattle.closing.proofs.pass.Lts as lts
 use Rattle.closing.proofs.join.Reads as join-reads
 
 abbrev Inv-loop : tie.InvT-loop
-Inv-loop buf₀ n k t x₀ buf x = (x ≤ n) × Laid (nameAt n) (viaMask buf₀ n k t) buf₀ (x * n) buf
+Inv-loop buf₀ n k t x₀ buf x = (x ≤ n) × Masks (nameAt n) (viaMask buf₀ n k t) buf₀ (x * n) buf
 
 abbrev μ-loop : tie.MeasureT-loop
 μ-loop buf₀ n k t x₀ buf x = n - x

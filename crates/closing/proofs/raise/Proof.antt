@@ -1,9 +1,10 @@
+use Rattle.parts.specs.Numbers.{num2}
 use Prim.Native.Nat.{_*_, _-_, _≤_}
 use mathlib.Core.Path.{_≡_}
 use native.Mathlib.Omega.{arith}
 use lib.ListN.{length-set}
 use Rattle.lines.specs.Lines.{nameAt}
-use Rattle.closing.specs.Laying.{Laid, laid-none}
+use Rattle.lines.specs.Laying.{Masks, laid-none, two-local}
 use Rattle.closing.specs.Steps.{raisedMask, raise-more}
 use Rattle.closing.proofs.raise.Statement.{statement}
 use Rattle.closing.proofs.raise.Tie as tie
@@ -13,7 +14,7 @@ use Rattle.closing.proofs.raised.Reads as raised-reads
 use Rattle.parts.proofs.mask2.Reads as mask2-reads
 
 abbrev Inv-loop : tie.InvT-loop
-Inv-loop buf₀ n t a size i₀ buf i = (i ≤ n * n) × Laid (nameAt n) (raisedMask buf₀ n t a) buf₀ i buf
+Inv-loop buf₀ n t a size i₀ buf i = (i ≤ n * n) × Masks (nameAt n) (raisedMask buf₀ n t a) buf₀ i buf
 
 abbrev μ-loop : tie.MeasureT-loop
 μ-loop buf₀ n t a size i₀ buf i = n * n - i
@@ -22,7 +23,7 @@ mul-size : tie.Need-mul-size Inv-loop μ-loop
 mul-size c = omega arith
 
 loop-holds : tie.Need-loop-holds Inv-loop μ-loop
-loop-holds c = (omega arith, laid-none _ _ _)
+loop-holds c = (omega arith, laid-none 2 num2 two-local _ _ _)
 
 mul-at : tie.Need-mul-at Inv-loop μ-loop
 mul-at c = omega arith

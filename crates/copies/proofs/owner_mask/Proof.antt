@@ -7,7 +7,7 @@ use Rattle.copies.proofs.owner_mask.Tie as tie
 use Rattle.copies.proofs.owner_mask.Reads as reads
 use Rattle.copies.proofs.owner_mask.Lts as lts
 use Rattle.copies.proofs.count_to.Reads as count-to-reads
-use Rattle.copies.proofs.edge_count.Reads as edge-count-reads
+use Rattle.edges.proofs.edge_count.Reads as edge-count-reads
 use Rattle.edges.proofs.edge_at.Reads as edge-at-reads
 
 abbrev Inv-loop : tie.InvT-loop

@@ -8,7 +8,7 @@ use Rattle.copies.proofs.total_to.Tie as tie
 use Rattle.copies.proofs.total_to.Reads as reads
 use Rattle.copies.proofs.total_to.Lts as lts
 use Rattle.copies.proofs.count_to.Reads as count-to-reads
-use Rattle.copies.proofs.edge_count.Reads as edge-count-reads
+use Rattle.edges.proofs.edge_count.Reads as edge-count-reads
 use Rattle.edges.proofs.edge_at.Reads as edge-at-reads
 
 abbrev Inv-loop : tie.InvT-loop

@@ -5,8 +5,8 @@ use Rattle.description_vectors.proofs.run.Statement.{statement}
 use Rattle.description_vectors.proofs.run.Tie as tie
 use Rattle.description_vectors.proofs.run.Reads as reads
 use Rattle.description_vectors.proofs.run.Lts as lts
-use Rattle.description_vectors.proofs.line_end.Reads as line-end-reads
 use Rattle.description_vectors.proofs.run_line.Reads as run-line-reads
+use Rattle.vector_rows.proofs.mark_from.Reads as mark-from-reads
 
 abbrev Inv-loop : tie.InvT-loop
 Inv-loop all at₀ at = at ≤ length all + 1
@@ -17,8 +17,8 @@ abbrev μ-loop : tie.MeasureT-loop
 loop-holds : tie.Need-loop-holds Inv-loop μ-loop
 loop-holds c = search needs
 
-line-end-requires : tie.Need-line-end-requires Inv-loop μ-loop
-line-end-requires c κs = search needs
+mark-from-requires : tie.Need-mark-from-requires Inv-loop μ-loop
+mark-from-requires c κs = search needs
 
 sub-run-line : tie.Need-sub-run-line Inv-loop μ-loop
 sub-run-line c = search needs
@@ -51,7 +51,7 @@ run-spec =
     Inv-loop
     μ-loop
     loop-holds
-    line-end-requires
+    mark-from-requires
     sub-run-line
     part-run-line-start
     part-run-line-end

@@ -12,7 +12,7 @@ use Rattle.fillers.proofs.all_decided.Tie as tie
 use Rattle.fillers.proofs.all_decided.Reads as reads
 use Rattle.fillers.proofs.all_decided.Lts as lts
 use Rattle.fillers.proofs.decides_at.Reads as decides-at-reads
-use Rattle.fillers.proofs.edge_count.Reads as edge-count-reads
+use Rattle.edges.proofs.edge_count.Reads as edge-count-reads
 
 abbrev Inv-loop : tie.InvT-loop
 Inv-loop s es r l k j₀ j = (j ≤ k) × (allBelow j (λ j. decides s (r .0) l (edgeStruct es j)) ≡ true)

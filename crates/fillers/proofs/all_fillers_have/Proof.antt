@@ -11,7 +11,7 @@ use Rattle.fillers.proofs.all_fillers_have.Statement.{statement}
 use Rattle.fillers.proofs.all_fillers_have.Tie as tie
 use Rattle.fillers.proofs.all_fillers_have.Reads as reads
 use Rattle.fillers.proofs.all_fillers_have.Lts as lts
-use Rattle.fillers.proofs.edge_count.Reads as edge-count-reads
+use Rattle.edges.proofs.edge_count.Reads as edge-count-reads
 use Rattle.fillers.proofs.keeps_at.Reads as keeps-at-reads
 
 abbrev Inv-loop : tie.InvT-loop

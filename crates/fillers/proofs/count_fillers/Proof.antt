@@ -9,7 +9,7 @@ use Rattle.fillers.proofs.count_fillers.Statement.{statement}
 use Rattle.fillers.proofs.count_fillers.Tie as tie
 use Rattle.fillers.proofs.count_fillers.Reads as reads
 use Rattle.fillers.proofs.count_fillers.Lts as lts
-use Rattle.fillers.proofs.edge_count.Reads as edge-count-reads
+use Rattle.edges.proofs.edge_count.Reads as edge-count-reads
 use Rattle.fillers.proofs.share_at.Reads as share-at-reads
 
 abbrev Inv-loop : tie.InvT-loop

@@ -11,7 +11,7 @@ use Rattle.fillers.proofs.some_filler_has.Tie as tie
 use Rattle.fillers.proofs.some_filler_has.Reads as reads
 use Rattle.fillers.proofs.some_filler_has.Lts as lts
 use Rattle.edges.proofs.edge_at.Reads as edge-at-reads
-use Rattle.fillers.proofs.edge_count.Reads as edge-count-reads
+use Rattle.edges.proofs.edge_count.Reads as edge-count-reads
 use Rattle.fillers.proofs.leads_to.Reads as leads-to-reads
 
 abbrev Inv-loop : tie.InvT-loop

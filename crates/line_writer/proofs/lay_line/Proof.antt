@@ -19,7 +19,7 @@ lay-names-requires : tie.Need-lay-names-requires
 lay-names-requires c κs = (omega arith, rw length-set (omega arith))
 
 lay-rows-requires : tie.Need-lay-rows-requires
-lay-rows-requires c κs = let p = c .before .before .before .before .before .before .before .before .before .args in let n = c .before .before .before .lay-names .ensures .size in let m = length-set (p .buf .now) 0 (p .d) in (omega arith, omega arith)
+lay-rows-requires c κs = let p = c .before .before .before .before .before .before .before .before .before .args in let n = c .before .before .before .lay-names .ensures .whole in let m = length-set (p .buf .now) 0 (p .d) in (omega arith, omega arith)
 
 transitive-roles-requires : tie.Need-transitive-roles-requires
 transitive-roles-requires c κs = search needs
@@ -28,10 +28,10 @@ close-roles-requires : tie.Need-close-roles-requires
 close-roles-requires c κs = search needs
 
 same-length : tie.Need-same-length
-same-length c = let p = c .before .before .before .before .before .before .before .before .before .before .before .before .before .before .before .before .before .args in c .before .before .close-roles .ensures .0 ∙ c .before .before .before .before .before .before .before .lay-rows .ensures .size ∙ c .before .before .before .before .before .before .before .before .before .before .before .lay-names .ensures .size ∙ length-set (p .buf .now) 0 (p .d)
+same-length c = let p = c .before .before .before .before .before .before .before .before .before .before .before .before .before .before .before .before .before .args in c .before .before .close-roles .ensures .0 ∙ c .before .before .before .before .before .before .before .lay-rows .ensures .whole ∙ c .before .before .before .before .before .before .before .before .before .before .before .lay-names .ensures .whole ∙ length-set (p .buf .now) 0 (p .d)
 
 returns : tie.Need-returns
-returns c = let p = c .before .before .before .before .before .before .before .before .before .before .before .before .before .before .before .before .before .args in lay-steps (p .rs .now) (p .cs .now) (p .s .now) (p .a) (p .k) (p .d) _ (p .buf .now) _ _ _ (omega arith) (c .before .before .before .transitive-roles .ensures) (c .before .before .before .before .before .before .before .before .before .before .before .lay-names .ensures) (c .before .before .before .before .before .before .before .lay-rows .ensures) (c .before .before .close-roles .ensures)
+returns c = let p = c .before .before .before .before .before .before .before .before .before .before .before .before .before .before .before .before .before .args in lay-steps (p .rs .now) (p .cs .now) (p .s .now) (p .a) (p .k) (p .d) _ (p .buf .now) _ _ _ (omega arith) (c .before .before .before .transitive-roles .ensures) (c .before .before .before .before .before .before .before .before .before .before .before .lay-names .ensures) (c .before .before .before .before .before .before .before .lay-rows .ensures) (λ q. omega (arith, c .before .before .before .before .before .slice-known3 .given q)) (c .before .before .close-roles .ensures)
 
 pub lay-line-spec : {M : Type 1} → statement M
 lay-line-spec =

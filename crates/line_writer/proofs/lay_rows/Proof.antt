@@ -1,12 +1,12 @@
+use Rattle.lines.specs.Laying.{Masks}
 use Prim.Native.Nat.{_+_, _-_, _*_, _≤_}
-use mathlib.Core.Path.{_≡_, refl}
+use mathlib.Core.Path.{_≡_, subst}
 use native.Mathlib.Omega.{arith}
 use native.Mathlib.Nat.{suc-mul}
 use native.Mathlib.Numerals.{add-one}
 use borrow.Author.Needs.{needs}
-use Rattle.lines.specs.Lines.{nameAt, lineLength}
-use Rattle.line_writer.specs.Laying.{Laid, laid-none, laid-on, laid-to}
-use Rattle.line_writer.specs.WriteSteps.{rowsByte, row-room, row-in-rows}
+use Rattle.lines.specs.Lines.{nameAt}
+use Rattle.line_writer.specs.WriteSteps.{directMasks, row-room, rows-start, rows-more}
 use Rattle.line_writer.proofs.lay_rows.Statement.{statement}
 use Rattle.line_writer.proofs.lay_rows.Tie as tie
 use Rattle.line_writer.proofs.lay_rows.Reads as reads
@@ -15,7 +15,7 @@ use Rattle.evidence.proofs.record_edges.Reads as record-edges-reads
 use Rattle.line_writer.proofs.lay_row.Reads as lay-row-reads
 
 abbrev Inv-loop : tie.InvT-loop
-Inv-loop buf₀ s d k at₀ z₀ buf at z = (z ≤ d) × (at ≡ nameAt d + 2 * (z * d)) × Laid (rowsByte s k d) (nameAt d) at buf₀ buf
+Inv-loop buf₀ s d k at₀ z₀ buf at z = (z ≤ d) × (at ≡ nameAt d + 2 * (z * d)) × Masks (nameAt d) (directMasks s k d) buf₀ (z * d) buf
 
 abbrev μ-loop : tie.MeasureT-loop
 μ-loop buf₀ s d k at₀ z₀ buf at z = d - z
@@ -27,7 +27,7 @@ add-at : tie.Need-add-at Inv-loop μ-loop
 add-at c = omega arith
 
 loop-holds : tie.Need-loop-holds Inv-loop μ-loop
-loop-holds c = (omega arith, omega arith, laid-none _ _ _ _ refl)
+loop-holds c = let p = c .before .before .args in (omega arith, omega arith, rows-start (p .s .now) (p .k) (p .d) (p .buf .now))
 
 div-record-edges : tie.Need-div-record-edges Inv-loop μ-loop
 div-record-edges c = omega arith
@@ -36,13 +36,13 @@ record-edges-requires : tie.Need-record-edges-requires Inv-loop μ-loop
 record-edges-requires c κs = search needs
 
 lay-row-requires : tie.Need-lay-row-requires Inv-loop μ-loop
-lay-row-requires c κs = let r = row-room (c .before .before .before .before .before .before .args .d) (c .before .before .before .loop .z) (omega arith) in let l = c .before .before .before .loop .inv .2 .size in (omega arith, omega arith)
+lay-row-requires c κs = let r = row-room (c .before .before .before .before .before .before .args .d) (c .before .before .before .loop .z) (omega arith) in let l = c .before .before .before .loop .inv .2 .whole in (omega arith, omega arith)
 
 mul-at-2 : tie.Need-mul-at-2 Inv-loop μ-loop
 mul-at-2 c = omega arith
 
 add-at-2 : tie.Need-add-at-2 Inv-loop μ-loop
-add-at-2 c = let r = row-room (c .before .before .before .before .before .before .before .before .before .args .d) (c .before .before .before .before .before .before .loop .z) (omega arith) in let l = c .before .before .before .before .before .before .loop .inv .2 .size in omega arith
+add-at-2 c = let r = row-room (c .before .before .before .before .before .before .before .before .before .args .d) (c .before .before .before .before .before .before .loop .z) (omega arith) in let l = c .before .before .before .before .before .before .loop .inv .2 .whole in omega arith
 
 add-z : tie.Need-add-z Inv-loop μ-loop
 add-z c = omega arith
@@ -54,15 +54,14 @@ loop-again : tie.Need-loop-again Inv-loop μ-loop
 loop-again c = let p = c .before .before .before .before .before .before .before .before .before .args in let v = c .before .before .before .before .before .before .loop in (
   omega arith,
   rw (add-one, suc-mul) (omega arith),
-  laid-on (rowsByte (p .s .now) (p .k) (p .d)) _ (nameAt (p .d)) (v .at) (v .at + 2 * p .d) _ (p .buf .now) (v .buf) _ (omega arith) (omega arith) refl
-      (row-in-rows (p .s .now) _ (p .k) (p .d) (v .z) (v .at) (c .before .before .before .record-edges .ensures) (v .inv .1)) (v .inv .2) (c .before .before .lay-row .ensures),
+  rows-more (p .s .now) _ (p .k) (p .d) (v .z) (v .at) (p .buf .now) (v .buf) _ (c .before .before .before .record-edges .ensures) (v .inv .1) (v .inv .2) (c .before .before .lay-row .ensures),
 )
 
 same-length : tie.Need-same-length Inv-loop μ-loop
-same-length c = c .before .loop .inv .2 .size
+same-length c = c .before .loop .inv .2 .whole
 
 returns : tie.Need-returns Inv-loop μ-loop
-returns c = let p = c .before .before .before .before .args in let v = c .before .loop in laid-to _ _ (v .at) (lineLength (p .d)) _ _ (let z : v .z ≡ p .d = omega arith in let e = v .inv .1 in rw z at e) (v .inv .2)
+returns c = let p = c .before .before .before .before .args in let v = c .before .loop in subst (λ n. Masks (nameAt (p .d)) (directMasks (p .s .now) (p .k) (p .d)) (p .buf .now) (n * p .d) (v .buf)) (let z : v .z ≡ p .d = omega arith in z) (v .inv .2)
 
 pub lay-rows-spec : {M : Type 1} → statement M
 lay-rows-spec =

@@ -49,7 +49,7 @@ loop-again c = let v = c .before .before .before .loop in (
 )
 
 returns : tie.Need-returns Inv-loop μ-loop
-returns c = names-done _ _ (c .before .loop .e) _ _ (c .before .before .entry-count .ensures .0) (omega arith) (omega arith) (c .before .loop .inv .2)
+returns c = names-done _ _ (c .before .loop .e) _ _ (c .before .before .entry-count .ensures .0) (omega arith) (omega arith) (omega arith) (c .before .loop .inv .2)
 
 pub name-mask-spec : {M : Type 1} → statement M
 name-mask-spec =

@@ -1,6 +1,6 @@
+use Rattle.lines.specs.Laying.{laid-two}
 use native.Mathlib.Omega.{arith}
 use lib.ListN.{length-set}
-use Rattle.line_writer.specs.Laying.{laid-two}
 use borrow.Author.Needs.{needs}
 use Rattle.line_writer.proofs.put2.Statement.{statement}
 use Rattle.line_writer.proofs.put2.Tie as tie
@@ -26,7 +26,7 @@ same-length : tie.Need-same-length
 same-length c = search needs
 
 returns : tie.Need-returns
-returns c = laid-two (c .args .m) (c .args .at) (c .args .buf .now) (omega arith)
+returns c = laid-two (c .args .buf .now) (c .args .at) _ _ (c .args .m) (omega arith) (omega arith)
 
 pub put2-spec : {M : Type 1} → statement M
 put2-spec =

@@ -1,6 +1,6 @@
+use Rattle.lines.specs.Laying.{laid-four}
 use native.Mathlib.Omega.{arith}
 use lib.ListN.{length-set}
-use Rattle.line_writer.specs.Laying.{laid-four}
 use borrow.Author.Needs.{needs}
 use Rattle.line_writer.proofs.put4.Statement.{statement}
 use Rattle.line_writer.proofs.put4.Tie as tie
@@ -44,7 +44,7 @@ same-length : tie.Need-same-length
 same-length c = search needs
 
 returns : tie.Need-returns
-returns c = laid-four (c .args .m) (c .args .at) (c .args .buf .now) (omega arith)
+returns c = laid-four (c .args .buf .now) (c .args .at) (c .args .m) (omega arith) (omega arith)
 
 pub put4-spec : {M : Type 1} → statement M
 put4-spec =

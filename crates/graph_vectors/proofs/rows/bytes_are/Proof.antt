@@ -1,16 +1,17 @@
 use Prim.Native.Nat.{_-_, _≤_}
 use borrow.Author.Needs.{needs}
 use lib.ListN.{length}
-use Rattle.description_vectors.proofs.line_end.Statement.{statement}
-use Rattle.description_vectors.proofs.line_end.Tie as tie
-use Rattle.description_vectors.proofs.line_end.Reads as reads
-use Rattle.description_vectors.proofs.line_end.Lts as lts
+use Rattle.graph_vectors.proofs.rows.bytes_are.Statement.{statement}
+use Rattle.graph_vectors.proofs.rows.bytes_are.Tie as tie
+use Rattle.graph_vectors.proofs.rows.bytes_are.Reads as reads
+use Rattle.graph_vectors.proofs.rows.bytes_are.Lts as lts
+use Rattle.vector_rows.proofs.byte_said.Reads as byte-said-reads
 
 abbrev Inv-loop : tie.InvT-loop
-Inv-loop all from end₀ end = (from ≤ end) × (end ≤ length all)
+Inv-loop buf hex i₀ i = i ≤ length buf
 
 abbrev μ-loop : tie.MeasureT-loop
-μ-loop all from end₀ end = length all - end
+μ-loop buf hex i₀ i = length buf - i
 
 loop-holds : tie.Need-loop-holds Inv-loop μ-loop
 loop-holds c = search needs
@@ -18,11 +19,14 @@ loop-holds c = search needs
 shared-slice-read-if1 : tie.Need-shared-slice-read-if1 Inv-loop μ-loop
 shared-slice-read-if1 c = search needs
 
+byte-said-requires : tie.Need-byte-said-requires Inv-loop μ-loop
+byte-said-requires c κs = search needs
+
 returns : tie.Need-returns Inv-loop μ-loop
 returns c = search needs
 
-add-end : tie.Need-add-end Inv-loop μ-loop
-add-end c = search needs
+add-i : tie.Need-add-i Inv-loop μ-loop
+add-i c = search needs
 
 loop-less : tie.Need-loop-less Inv-loop μ-loop
 loop-less c = search needs
@@ -33,16 +37,17 @@ loop-again c = search needs
 returns-2 : tie.Need-returns-2 Inv-loop μ-loop
 returns-2 c = search needs
 
-pub line-end-spec : {M : Type 1} → statement M
-line-end-spec =
+pub bytes-are-spec : {M : Type 1} → statement M
+bytes-are-spec =
     tie.close
     (tie.spec
     Inv-loop
     μ-loop
     loop-holds
     shared-slice-read-if1
+    byte-said-requires
     returns
-    add-end
+    add-i
     loop-less
     loop-again
     returns-2)

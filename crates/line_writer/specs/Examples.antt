@@ -1,0 +1,89 @@
+-- Worked examples: P4, the line of P3, with what the writer answers and leaves; and what the reader answers to it.
+use Prim.Native.Nat.{ℕ}
+use mathlib.Core.Path.{_≡_, refl}
+use mathlib.Core.List.{List, [], _∷_, _++_, map}
+use mathlib.Core.Option.{none, some}
+use lib.ListN.{length, replicate}
+use Rattle.logic.specs.Bounded.{allBelow, anyBelow}
+use Rattle.logic.specs.Closure.{closure}
+use Rattle.logic.specs.Lists.{each, some?, tabulate}
+use Rattle.logic.specs.Refusals.{refuseFrom}
+use Rattle.logic.specs.Sets.{has, narrow, nonempty, within, setOf}
+use Rattle.logic.specs.Sums.{sumBelow, maxBelow}
+use Rattle.parts.specs.Pairs.{fills, fillsFrom}
+use Rattle.description.specs.Literals.{literal, members}
+use Rattle.description.specs.Descriptions.{entryFrom, sameEntry, ifBoth, ifEvery, ifLeast}
+use Rattle.description.specs.Roles.{ancestor, simple}
+use Rattle.description.specs.Acceptance.{entryTest, descriptionTests}
+use Rattle.interpretation.specs.Meaning.{meaning, truthWith, truth}
+use Rattle.interpretation.specs.Reading.{includes, composes, follows, satisfies}
+use Rattle.graph.specs.Graphs.{total}
+use Rattle.graph.specs.GraphTests.{labelTest, bothTest, edgeTest, everyTest, countTest, nodeRefusal}
+use Rattle.graph.specs.Line.{copies, joins, direct, pairs}
+use Rattle.intake.specs.Intake.{sizesTest, partsTest, bytesTest}
+use Rattle.evidence.specs.Evidence.{headTest, nodeFormTest}
+use Rattle.lines.specs.Lines.{lineTest, lineByte}
+use Rattle.answers.specs.Answers.{Answer, answer, WRITTEN, HOLDS, FAILS, REFUSED}
+use Rattle.graph_check.specs.GraphEvidence.{graphTests, graphRefused}
+use Rattle.graph_check.specs.Examples.{third, filled}
+use Rattle.line_reader.specs.Reading.{readRefusal, readAnswer}
+use Rattle.line_writer.specs.Writing.{writeRefused, writeAnswer, writeLength, bufferAfter}
+
+-- P4: 4 elements without a name; 0 and 1 each to 2 and 3
+abbrev row : List ℕ
+row = 0 ∷ 0 ∷ 0 ∷ 0 ∷ 0 ∷ 1 ∷ 0 ∷ 1 ∷ []
+
+abbrev fourth : List ℕ
+fourth = 4 ∷ replicate 16 0 ++ row ++ row ++ replicate 16 0
+
+record Trial : Type 0 where
+  pub evidence : List ℕ
+  pub buffer : List ℕ
+  pub told : Answer
+  pub long : ℕ
+  pub after : List ℕ
+
+-- a refusal leaves the buffer as it is
+abbrev refused : List ℕ → List ℕ → ℕ → Trial
+refused s old n = record { evidence = s; buffer = old; told = answer WRITTEN (some (record { number = n; place = 0 })); long = 0; after = old }
+
+trials : List Trial
+trials =
+    -- 49 bytes hold it, a longer buffer keeps its other bytes, 48 are too few
+    record { evidence = filled 2; buffer = replicate 49 165; told = answer WRITTEN none; long = 49; after = fourth }
+    ∷ record { evidence = filled 2; buffer = replicate 51 165; told = answer WRITTEN none; long = 49; after = fourth ++ 165 ∷ 165 ∷ [] }
+    ∷ refused (filled 2) (replicate 48 165) 22
+    -- a broken rule comes before a short buffer
+    ∷ refused (filled 3) [] 15
+    ∷ refused [] (replicate 49 165) 9
+    ∷ []
+
+-- the answer, the length and every byte of the buffer, by the definitions
+abbrev tried : Trial → Trial
+tried t = record {
+  evidence = t .evidence;
+  buffer = t .buffer;
+  told = writeAnswer third (t .evidence) (length (t .buffer));
+  long = writeLength third (t .evidence) (length (t .buffer));
+  after = bufferAfter third (t .evidence) (t .buffer);
+}
+
+trials-hold : map tried trials ≡ trials
+unfolding trials writeRefused graphRefused graphTests refuseFrom headTest nodeFormTest nodeRefusal labelTest bothTest edgeTest everyTest countTest total each some? tabulate members nonempty
+    bytesTest partsTest sizesTest fills fillsFrom descriptionTests allBelow anyBelow narrow entryTest literal entryFrom ifBoth ifLeast ifEvery simple ancestor closure has sameEntry
+    copies maxBelow lineByte setOf joins direct pairs
+trials-hold = refl
+
+-- the line is read as a model with the root; with a filler less it is none; cut short, or with a bit for no role, it has not the form
+reads-hold : map (readAnswer third) (
+    fourth
+    ∷ (4 ∷ replicate 16 0 ++ row ++ (0 ∷ 0 ∷ 0 ∷ 0 ∷ 0 ∷ 1 ∷ 0 ∷ 0 ∷ []) ++ replicate 16 0)
+    ∷ (4 ∷ replicate 16 0 ++ (0 ∷ 0 ∷ 0 ∷ 0 ∷ 0 ∷ 1 ∷ 0 ∷ 0 ∷ []) ++ (0 ∷ 0 ∷ 0 ∷ 0 ∷ 0 ∷ 1 ∷ 0 ∷ 0 ∷ []) ++ replicate 16 0)
+    ∷ (4 ∷ replicate 16 0 ++ row ++ row ++ replicate 15 0)
+    ∷ (4 ∷ replicate 16 0 ++ row ++ row ++ replicate 15 0 ++ 2 ∷ [])
+    ∷ []
+    )
+    ≡ (answer HOLDS none ∷ answer HOLDS none ∷ answer FAILS none ∷ answer REFUSED (some (record { number = 23; place = 0 })) ∷ answer REFUSED (some (record { number = 23; place = 0 })) ∷ [])
+unfolding readAnswer readRefusal lineTest within setOf includes composes follows satisfies truth truthWith meaning sumBelow each
+    bytesTest partsTest sizesTest fills fillsFrom descriptionTests allBelow anyBelow narrow entryTest literal entryFrom ifLeast ifEvery simple ancestor closure has sameEntry
+reads-hold = refl
