@@ -1,8 +1,10 @@
 // The head of evidence, and the form of its records.
 ghost use mathlib.Core.Path.{_≡_};
+ghost use Rattle.logic.specs.Sets.{has};
 ghost use Rattle.labels.specs.Labels.{valueOf};
 ghost use Rattle.evidence.specs.Evidence.{headTest, headOf, nodeFormTest, labelOf, edgesPart};
 use labels::Label;
+use labels::holds_at;
 use labels::load;
 use parts::byte;
 use parts::pairs_fill;
@@ -55,6 +57,13 @@ pub fn record_label(s: &[u8], i: u8) -> Label
     ensures { λ r. ⌜ valueOf r ≡ labelOf (now (s .entry)) i ⌝ }
 {
     load(s, read2(s, 2 + 4 * (i as usize)))
+}
+
+// Whether the label of record `i` holds the literal `l`.
+pub fn record_holds(s: &[u8], i: u8, l: u8) -> bool
+    ensures { λ r. ⌜ r ≡ has (labelOf (now (s .entry)) i) l ⌝ }
+{
+    holds_at(s, read2(s, 2 + 4 * (i as usize)), l)
 }
 
 // The bytes behind the label of record `i`; none if it has no label or does not lie in the evidence.

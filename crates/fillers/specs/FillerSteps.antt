@@ -97,8 +97,8 @@ countsCode cs s N es = allBelow (entryCount cs) (leastAt cs s N es)
 
 -- ---- laws for the code
 module _ (s : List ℕ) (r l : ℕ) where
-  pub leads-on : (E : Edge) (N : ℕ) (b : Bool) → has (E .mask) r ≡ true → N ≡ labelOf s (E .target) → b ≡ has N l → b ≡ leads s r l E
-  leads-on E N b m n h = h ∙ rw (m, n) refl
+  pub leads-on : (E : Edge) (b : Bool) → has (E .mask) r ≡ true → b ≡ has (labelOf s (E .target)) l → b ≡ leads s r l E
+  leads-on E b m h = h ∙ rw m refl
 
   -- what is read of an edge E, which is the edge F of the bytes
   pub keeps-read : (E F : Edge) (p q : Bool) → E ≡ F → p ≡ has (E .mask) r → q ≡ leads s r l E → (not p || q) ≡ keeps s r l F

@@ -13,7 +13,7 @@ ghost use Rattle.fillers.specs.FillerSteps.{everyAbove, hasAbove, carrie
 use edges::Edge;
 use edges::edge_at;
 use edges::edge_count;
-use evidence::record_label;
+use evidence::record_holds;
 use labels::Label;
 use labels::holds;
 use nodes::entry_count;
@@ -32,7 +32,7 @@ fn leads_to(s: &[u8], e: Edge, r: RoleNo, l: u8) -> bool
     ensures { λ q. ⌜ q ≡ leads (now (s .entry)) (r .0) l e ⌝ }
 {
     if has16(e.mask, r.0) {
-        holds(record_label(s, e.target), l)
+        record_holds(s, e.target, l)
     } else {
         false
     }

@@ -3,6 +3,7 @@ ghost use mathlib.Core.Path.{_≡_};
 ghost use Prim.Native.Nat.{_<_};
 ghost use Rattle.logic.specs.Sets.{has, narrow, within};
 ghost use Rattle.labels.specs.Labels.{num4, labelIn, valueOf};
+use parts::byte;
 use parts::mask2;
 
 pub struct Label {
@@ -77,4 +78,18 @@ pub fn lies_within(x: Label, y: Label) -> bool
     ensures { λ r. ⌜ r ≡ within (valueOf x) (valueOf y) ⌝ }
 {
     (x.high & y.high == x.high) & (x.low & y.low == x.low)
+}
+
+// Whether the label at `at` holds the literal `l`, read in place: one byte.
+pub fn holds_at(s: &[u8], at: usize, l: u8) -> bool
+    ensures { λ r. ⌜ r ≡ has (labelIn (now (s .entry)) at) l ⌝ }
+{
+    if s.len() <= at {
+        return false;
+    }
+    if 64 <= l {
+        return false;
+    }
+    let x = byte(s, at + (7 - (l / 8) as usize));
+    (x >> (l % 8)) % 2 == 1
 }
