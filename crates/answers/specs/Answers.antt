@@ -1,6 +1,6 @@
 -- Answers, and the word, number and record that each case stands for (01, "Table of refusals" and "Trial descriptions"; FORMAT 8).
 use Prim.Native.Nat.{ℕ}
-use mathlib.Core.Path.{_≡_, refl, sym, ap}
+use mathlib.Core.Path.{_≡_, refl, sym, _∙_, ap}
 use mathlib.Core.Logic.{_↔_}
 use native.Mathlib.Omega.{arith}
 use mathlib.Core.Option.{Option, none, some, Option·none-ne-some}
@@ -64,3 +64,27 @@ abbrev pub ofReading : Readings.Reading → Answer
 ofReading Readings.the-variants.Holds = answer HOLDS none
 ofReading Readings.the-variants.Fails = answer FAILS none
 ofReading (Readings.the-variants.Refused n r) = answer REFUSED (some (record { number = n; place = r }))
+
+-- ---- the case that a word tells
+pub inhabited↔ : (v : Verdicts.Verdict) → (ofVerdict v ≡ answer INHABITED none) ↔ (v ≡ Verdicts.the-variants.Inhabited)
+inhabited↔ Verdicts.the-variants.Inhabited = (λ _. refl, λ _. refl)
+inhabited↔ Verdicts.the-variants.Empty = (λ e. absurd (let w = ap (λ (x : Answer). x .word) e in let z : _≡_ {A = ℕ} 0 1 = cc in omega arith), λ e. absurd (let z : _≡_ {A = ℕ} 0 1 = cc in omega arith))
+inhabited↔ (Verdicts.the-variants.Refused n r) = (λ e. absurd (let w = ap (λ (x : Answer). x .word) e in let z : _≡_ {A = ℕ} 0 1 = cc in omega arith), λ e. absurd (let z : _≡_ {A = ℕ} 0 1 = cc in omega arith))
+
+pub written↔ : (w : Writings.Written) → (ofWritten w ≡ answer WRITTEN none) ↔ (w ≡ Writings.the-variants.Line (lengthOf w))
+written↔ (Writings.the-variants.Line n) = (λ _. refl, λ _. refl)
+written↔ (Writings.the-variants.Refused n r) = (λ e. absurd (let w = ap (λ (x : Answer). x .word) e in let z : _≡_ {A = ℕ} 0 1 = cc in omega arith), λ e. absurd (let z : _≡_ {A = ℕ} 0 1 = cc in omega arith))
+
+pub holds↔ : (r : Readings.Reading) → (ofReading r ≡ answer HOLDS none) ↔ (r ≡ Readings.the-variants.Holds)
+holds↔ Readings.the-variants.Holds = (λ _. refl, λ _. refl)
+holds↔ Readings.the-variants.Fails = (λ e. absurd (let w = ap (λ (x : Answer). x .word) e in let z : _≡_ {A = ℕ} 0 1 = cc in omega arith), λ e. absurd (let z : _≡_ {A = ℕ} 0 1 = cc in omega arith))
+holds↔ (Readings.the-variants.Refused n r) = (λ e. absurd (let w = ap (λ (x : Answer). x .word) e in let z : _≡_ {A = ℕ} 0 1 = cc in omega arith), λ e. absurd (let z : _≡_ {A = ℕ} 0 1 = cc in omega arith))
+
+pub fails↔ : (r : Readings.Reading) → (ofReading r ≡ answer FAILS none) ↔ (r ≡ Readings.the-variants.Fails)
+fails↔ Readings.the-variants.Fails = (λ _. refl, λ _. refl)
+fails↔ Readings.the-variants.Holds = (λ e. absurd (let w = ap (λ (x : Answer). x .word) e in let z : _≡_ {A = ℕ} 0 1 = cc in omega arith), λ e. absurd (let z : _≡_ {A = ℕ} 0 1 = cc in omega arith))
+fails↔ (Readings.the-variants.Refused n r) = (λ e. absurd (let w = ap (λ (x : Answer). x .word) e in let z : _≡_ {A = ℕ} 0 1 = cc in omega arith), λ e. absurd (let z : _≡_ {A = ℕ} 0 1 = cc in omega arith))
+
+-- a function that answers as the definition says answers a case exactly when the definition tells its word
+pub case-when : {A B : Type 0} (x y z : Answer) → x ≡ y → (x ≡ z) ↔ A → (y ≡ z) ↔ B → A ↔ B
+case-when x y z e p q = (λ a. q .0 (sym e ∙ p .1 a), λ b. p .0 (e ∙ q .1 b))

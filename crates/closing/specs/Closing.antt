@@ -1,20 +1,13 @@
 -- Closing the transitive roles of a line in its bytes (01, "The written line").
-use Prim.Native.Nat.{ℕ, _-_, _/_, _%_, _≤_, _<_}
-use mathlib.Core.Path.{_≡_, ap, subst}
-use mathlib.Core.Logic.{inl, inr}
+use Prim.Native.Nat.{ℕ, _-_, _/_, _%_}
 use mathlib.Core.Bool.{Bool, cond, _&&_, _||_}
 use mathlib.Core.List.{List}
 use lib.Dec.{eqb, leb, ltb}
 use lib.ListN.{length, getD}
-use Rattle.logic.specs.Tests.{So, or-l, or-r, or-cases, same-test, so-eqb, eqb-so}
-use Rattle.logic.specs.Bounded.{anyBelow, any-cong}
+use Rattle.logic.specs.Bounded.{anyBelow}
 use Rattle.logic.specs.Closure.{closure}
 use Rattle.logic.specs.Sets.{has, setOf}
-use Rattle.logic.specs.SetLaws.{setOf↔, setOf-cong}
 use Rattle.parts.specs.Numbers.{byteAt, num2}
-use Rattle.description.specs.Roles.{ancestor}
-use Rattle.tables.specs.Tables.{describe}
-use Rattle.roles.specs.Ancestors.{AncestorsOf, ancestor-masks}
 use Rattle.lines.specs.Lines.{nameAt, pairAt, lineLength, byteOf}
 
 -- the roles of the pair (x, y) of d elements
@@ -38,17 +31,3 @@ closedPair m d t a q = byteOf 2 (closedMask m d t a (q / 2 / d) (q / 2 % d)) (q 
 unfoldable pub closedByte : List ℕ → ℕ → ℕ → List ℕ → ℕ → ℕ
 closedByte m d t a p = cond (leb (lineLength d) (length m) && (leb (nameAt d) p && ltb p (lineLength d)))
     (closedPair m d t a (p - nameAt d)) (byteAt m p)
-
--- where the table has each role among its own ancestors, the ancestors are all that a closed role adds
-pub closed-up : (m : List ℕ) (d t : ℕ) (a : List ℕ) (x y : ℕ) → ((u : ℕ) → u < 16 → So (has (getD a u 0) u))
-    → closedMask m d t a x y ≡ setOf 16 (λ r. joinedBy m d r x y || anyBelow 16 (λ u. has t u && (has (getD a u 0) r && closure d (joinedBy m d u) x y)))
-unfolding closedMask
-closed-up m d t a x y own = setOf-cong 16 _ _ (λ r _. ap (λ b. joinedBy m d r x y || b) (any-cong 16 _ _ (λ u h. ap (λ b. has t u && (b && closure d (joinedBy m d u) x y)) (above r u h))))
-  where
-    above : (r u : ℕ) → u < 16 → (eqb u r || has (getD a u 0) r) ≡ has (getD a u 0) r
-    above r u h = same-test _ _ (λ s. elim (or-cases (eqb u r) _ s) [ inl e ↦ subst (λ n. So (has (getD a u 0) n)) (so-eqb u r e) (own u h) | inr e ↦ e ]) (or-r (eqb u r) _)
-
--- the table of ancestors that `roles` makes is such
-pub own-above : (rs cs qs a : List ℕ) → AncestorsOf rs a → length rs / 3 ≤ 16 → (u : ℕ) → u < 16 → So (has (getD a u 0) u)
-unfolding ancestor
-own-above rs cs qs a h few u l = rw (ancestor-masks rs cs qs a h few u l) (setOf↔ 16 (ancestor (describe rs cs qs) u) u .1 (l, or-l (eqb u u) _ (eqb-so u)))

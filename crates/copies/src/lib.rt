@@ -23,7 +23,7 @@ fn count_to(target: u8, count: usize, y: u8) -> usize
 }
 
 // The counts of the edges to `y`, added up.
-pub fn total_to(es: &[u8], y: u8) -> usize
+fn total_to(es: &[u8], y: u8) -> usize
     ensures { λ r. ⌜ (r ≡ totalTo (now (es .entry)) y) × (r ≤ 32 * 65535) ⌝ }
 {
     let k = edge_count(es);
@@ -50,7 +50,7 @@ fn most_to(es: &[u8], n: u8) -> usize
     most
 }
 
-// K: as many copies as one of the `n` records asks for of one of them, at least 1.
+// K: the greatest total of counts from one of the `n` records to one of them, at least 1.
 pub fn most_copies(s: &[u8], n: u8) -> usize
     ensures { λ r. ⌜ (r ≡ copiesIn (now (s .entry)) n) × (r ≤ 32 * 65535) ⌝ }
 {

@@ -4,12 +4,14 @@ use mathlib.Core.Path.{_≡_, refl, _∙_, ap}
 use mathlib.Core.Logic.{_↔_, Iff·rfl}
 use mathlib.Core.Bool.{Bool, true, false, cond, _&&_}
 use mathlib.Core.List.{List, []}
+use mathlib.Core.Option.{Option, none, some}
 use lib.Dec.{eqb, leb}
 use borrow.Author.Tests.{ne-eqb, lt-leb, le-leb}
 use lib.ListN.{length, take, drop, length-drop}
 use native.Mathlib.Omega.{arith}
 use Rattle.logic.specs.Tests.{So, reading}
 use Rattle.logic.specs.Lists.{tabulate, length-tabulate, at-tabulate}
+use Rattle.logic.specs.Refusals.{unless}
 use Rattle.parts.specs.Numbers.{byteAt, num2}
 use Rattle.parts.specs.Pairs.{offsetAt, lengthAt, endAt, partAt, Fills, fills, fills↔}
 use Rattle.labels.specs.Labels.{labelIn}
@@ -39,6 +41,21 @@ head↔ s = simp (reading, fills↔) Iff·rfl
 -- what the head says
 unfoldable pub headOf : List ℕ → Head
 headOf s = cond (headTest s) (cond (eqb (byteAt s 0) 1) (GraphOf (recordCount s)) (RefutationOf (recordCount s))) Off
+
+-- the paper's number of each case
+abbrev pub headRefusal : Head → Option ℕ
+headRefusal (GraphOf n) = none
+headRefusal (RefutationOf n) = none
+headRefusal Off = some 9
+
+pub head-refused : (s : List ℕ) → headRefusal (headOf s) ≡ unless (headTest s) 9 none
+unfolding headOf
+head-refused s = go (headTest s) (eqb (byteAt s 0) 1)
+  where
+    go : (a b : Bool) → headRefusal (cond a (cond b (GraphOf (recordCount s)) (RefutationOf (recordCount s))) Off) ≡ unless a 9 none
+    go true true = refl
+    go true false = refl
+    go false b = refl
 
 -- ---- records, and the graph
 abbrev pub recordAt : List ℕ → ℕ → List ℕ
@@ -109,6 +126,9 @@ module _ (s : List ℕ) where
   pub head-refutation : headTest s ≡ true → (byteAt s 0 ≡ 1 → ⊥) → (n : ℕ) → n ≡ recordCount s → RefutationOf n ≡ headOf s
   unfolding headOf
   head-refutation e k n q = rw (e, ne-eqb (byteAt s 0) 1 k, q) refl
+
+  pub head-told : (h : Head) → h ≡ headOf s → (h ≡ headOf s) × (headRefusal h ≡ unless (headTest s) 9 none)
+  head-told h e = (e, ap headRefusal e ∙ head-refused s)
 
   -- and what the answer says: a graph with that many records, or none
   pub head-is-graph : (n : ℕ) → GraphOf n ≡ headOf s → ((headTest s && eqb (byteAt s 0) 1) ≡ true) × (n ≡ recordCount s)

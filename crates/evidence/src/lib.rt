@@ -1,8 +1,10 @@
 // The head of evidence, and the form of its records.
 ghost use mathlib.Core.Path.{_≡_};
+ghost use mathlib.Core.Option.{none};
+ghost use Rattle.logic.specs.Refusals.{unless};
 ghost use Rattle.logic.specs.Sets.{has};
 ghost use Rattle.labels.specs.Labels.{valueOf};
-ghost use Rattle.evidence.specs.Evidence.{headTest, headOf, nodeFormTest, labelOf, edgesPart};
+ghost use Rattle.evidence.specs.Evidence.{headTest, headOf, headRefusal, nodeFormTest, labelOf, edgesPart};
 use labels::Label;
 use labels::holds_at;
 use labels::load;
@@ -28,7 +30,7 @@ fn head_ok(s: &[u8]) -> bool
 }
 
 pub fn read_head(s: &[u8]) -> Head
-    ensures { λ r. ⌜ r ≡ headOf (now (s .entry)) ⌝ }
+    ensures { λ r. ⌜ (r ≡ headOf (now (s .entry))) × (headRefusal r ≡ unless (headTest (now (s .entry))) 9 none) ⌝ }
 {
     if head_ok(s) {
         if byte(s, 0) == 1 {

@@ -1,4 +1,4 @@
--- Rules 10 to 15 of graphs as tests, in the table's order, and that they say what the rules say.
+-- Rules 10 to 15 of graphs (01, "Evidence" and "Table of refusals") as tests, in the table's order, and that they say what the rules say.
 use Prim.Native.Nat.{ℕ, _*_, _≤_}
 use mathlib.Core.Path.{_≡_, refl}
 use mathlib.Core.Logic.{_↔_, Iff·rfl}

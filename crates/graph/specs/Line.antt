@@ -13,7 +13,7 @@ use Rattle.description.specs.Roles.{ancestor}
 use Rattle.interpretation.specs.Meaning.{Interpretation}
 use Rattle.graph.specs.Graphs.{Edge, Graph, labelAt, edgesAt, ofRole, total}
 
--- K: as many copies as the fillers that some node asks for in some one node
+-- K: the greatest total of counts from one node to one node, at least 1
 unfoldable pub copies : Graph → ℕ
 copies G = max 1 (maxBelow (length G) (λ x. maxBelow (length G) (λ y. total (edgesAt G x) (λ E. eqb (E .target) y))))
 

@@ -15,7 +15,7 @@ use Rattle.description.specs.Descriptions.{entryFrom, sameEntry, ifBoth, ifEver
 use Rattle.description.specs.Roles.{ancestor, simple}
 use Rattle.description.specs.Acceptance.{entryTest, descriptionTests}
 use Rattle.graph.specs.Graphs.{total}
-use Rattle.graph.specs.GraphTests.{labelTest, bothTest, edgeTest, everyTest, countTest, nodeRefusal}
+use Rattle.graph.specs.GraphTests.{labelTest, bothTest, edgeTest, everyTest, countTest, nodeRefusal, graphRefusal}
 use Rattle.intake.specs.Intake.{sizesTest, partsTest, bytesTest}
 use Rattle.evidence.specs.Evidence.{headTest, nodeFormTest}
 use Rattle.answers.specs.Answers.{Answer, answer, INHABITED}
@@ -30,18 +30,18 @@ abbrev number : ℕ → List ℕ
 number n = n / 256 ∷ n % 256 ∷ []
 
 -- three parts behind their pairs
-abbrev pub described : List ℕ → List ℕ → List ℕ → List ℕ
-described roles concepts query = number 12 ++ number (length roles) ++ number (12 + length roles) ++ number (length concepts)
+abbrev pub parts : List ℕ → List ℕ → List ℕ → List ℕ
+parts roles concepts query = number 12 ++ number (length roles) ++ number (12 + length roles) ++ number (length concepts)
     ++ number (12 + length roles + length concepts) ++ number (length query) ++ roles ++ concepts ++ query
 
-abbrev entry : ℕ → ℕ → ℕ → ℕ → ℕ → List ℕ
+abbrev pub entry : ℕ → ℕ → ℕ → ℕ → ℕ → List ℕ
 entry kind r first second n = kind ∷ r ∷ first ∷ second ∷ number n
 
 -- a record with a label below 65,536, and an edge
-abbrev node : ℕ → List ℕ → List ℕ
+abbrev pub node : ℕ → List ℕ → List ℕ
 node label edges = replicate 6 0 ++ number label ++ edges
 
-abbrev edge : ℕ → ℕ → ℕ → List ℕ
+abbrev pub edge : ℕ → ℕ → ℕ → List ℕ
 edge target mask count = target ∷ number mask ++ number count
 
 -- a graph of one record, and of two
@@ -57,13 +57,16 @@ inhabited = answer INHABITED none
 abbrev refused : ℕ → ℕ → Answer
 refused n r = answer INHABITED (some (record { number = n; place = r }))
 
--- P1: one role, the entry top, the root top
-abbrev first : List ℕ
-first = described (0 ∷ 0 ∷ 0 ∷ []) (entry 0 0 0 0 0) (0 ∷ [])
+-- P1, byte by byte: one role, the entry top, the root top; and its evidence
+abbrev pub first : List ℕ
+first = 0 ∷ 12 ∷ 0 ∷ 3 ∷ 0 ∷ 15 ∷ 0 ∷ 6 ∷ 0 ∷ 21 ∷ 0 ∷ 1 ∷ 0 ∷ 0 ∷ 0 ∷ 0 ∷ 0 ∷ 0 ∷ 0 ∷ 0 ∷ 0 ∷ 0 ∷ []
+
+abbrev alone : List ℕ
+alone = 1 ∷ 1 ∷ 0 ∷ 6 ∷ 0 ∷ 8 ∷ 0 ∷ 0 ∷ 0 ∷ 0 ∷ 0 ∷ 0 ∷ 0 ∷ 1 ∷ []
 
 -- P3: "at least 2" and "at least 3" of top, both(2, 5), both(3, 4); the root is 6
 abbrev pub third : List ℕ
-third = described (0 ∷ 0 ∷ 0 ∷ []) (entry 0 0 0 0 0 ++ entry 4 0 0 0 2 ++ entry 4 0 0 0 3 ++ entry 2 0 2 5 0 ++ entry 2 0 3 4 0) (6 ∷ [])
+third = parts (0 ∷ 0 ∷ 0 ∷ []) (entry 0 0 0 0 0 ++ entry 4 0 0 0 2 ++ entry 4 0 0 0 3 ++ entry 2 0 2 5 0 ++ entry 2 0 3 4 0) (6 ∷ [])
 
 -- a node {0, 2, 5, 6} with `count` fillers, to a node {0}
 abbrev pub filled : ℕ → List ℕ
@@ -71,7 +74,11 @@ filled count = two (node 101 (edge 1 1 count)) (node 1 [])
 
 -- role 0 is transitive below role 1; a name, "every 1 name", "every 0 name"; the root is the first "every"
 abbrev every : List ℕ
-every = described (1 ∷ 0 ∷ 2 ∷ 0 ∷ 0 ∷ 0 ∷ []) (entry 0 0 0 0 0 ++ entry 1 0 0 0 0 ++ entry 3 1 2 0 0 ++ entry 3 0 2 0 0) (4 ∷ [])
+every = parts (1 ∷ 0 ∷ 2 ∷ 0 ∷ 0 ∷ 0 ∷ []) (entry 0 0 0 0 0 ++ entry 1 0 0 0 0 ++ entry 3 1 2 0 0 ++ entry 3 0 2 0 0) (4 ∷ [])
+
+-- the same table; the root is the complement of the first "every"
+abbrev lacking : List ℕ
+lacking = parts (1 ∷ 0 ∷ 2 ∷ 0 ∷ 0 ∷ 0 ∷ []) (entry 0 0 0 0 0 ++ entry 1 0 0 0 0 ++ entry 3 1 2 0 0 ++ entry 3 0 2 0 0) (5 ∷ [])
 
 abbrev trial : List ℕ → List ℕ → Answer → Trial
 trial d s t = record { description = d; evidence = s; told = t }
@@ -79,7 +86,7 @@ trial d s t = record { description = d; evidence = s; told = t }
 trials : List Trial
 trials =
     -- P1; P10, without evidence; a closing list is no graph here
-    trial first (one (node 1 [])) inhabited
+    trial first alone inhabited
     ∷ trial first [] (refused 9 0)
     ∷ trial first (2 ∷ 1 ∷ number 6 ++ number 8 ++ node 1 []) (refused 9 0)
     ∷ trial first (one (node 1 []) ++ 0 ∷ []) (refused 9 0)
@@ -93,7 +100,7 @@ trials =
     ∷ trial first (one (replicate 7 0)) (refused 10 0)
     ∷ trial first (one (node 1 (0 ∷ []))) (refused 10 0)
     ∷ trial first (two (node 0 []) (replicate 7 0)) (refused 10 1)
-    -- 11: without literal 0, past the table, without the root; in record 1, where the root is not asked for
+    -- 11: without literal 0, past the table, a literal with its opposite, without the root; in record 1, where the root is not asked for
     ∷ trial first (one (node 0 [])) (refused 11 0)
     ∷ trial first (one (node 5 [])) (refused 11 0)
     ∷ trial first (one (node 3 [])) (refused 11 0)
@@ -120,9 +127,11 @@ trials =
     -- 14: the complement of "every" wants a filler with the opposite
     ∷ trial every (two (node 145 []) (node 9 [])) (refused 14 0)
     ∷ trial every (two (node 145 (edge 1 2 1)) (node 5 [])) (refused 14 0)
+    ∷ trial lacking (two (node 33 (edge 1 2 1)) (node 9 [])) inhabited
+    ∷ trial lacking (two (node 33 (edge 1 2 1)) (node 1 [])) (refused 14 0)
     ∷ []
 
 trials-hold : map (λ t. graphAnswer (t .description) (t .evidence)) trials ≡ map (λ t. t .told) trials
-unfolding trials graphRefused graphTests refuseFrom headTest nodeFormTest nodeRefusal labelTest bothTest edgeTest everyTest countTest total each some? tabulate members nonempty
+unfolding trials graphRefused graphTests graphRefusal refuseFrom headTest nodeFormTest nodeRefusal labelTest bothTest edgeTest everyTest countTest total each some? tabulate members nonempty
     bytesTest partsTest sizesTest fills fillsFrom descriptionTests allBelow anyBelow narrow entryTest literal entryFrom ifBoth ifLeast ifEvery simple ancestor closure has sameEntry
 trials-hold = refl

@@ -15,18 +15,21 @@ use Rattle.description.specs.Descriptions.{Description}
 use Rattle.parts.specs.Numbers.{byteAt}
 use Rattle.interpretation.specs.Models.{Model, Satisfies}
 use Rattle.graph.specs.Graphs.{labelAt, nodeAt, edgesAt, wantedAt, Keeps, GraphFits}
-use Rattle.graph.specs.GraphTests.{storedGraph, nodeRefusal, node↔}
+use Rattle.graph.specs.GraphTests.{storedGraph, graphRefusal, graph↔}
 use Rattle.graph.specs.Line.{line}
 use Rattle.graph.specs.Sound.{graph-sound}
 use Rattle.intake.specs.Intake.{bytesTest, described, AcceptedBytes, accepted-bytes↔}
 use Rattle.evidence.specs.Evidence.{recordCount, HeadOk, headTest, head↔, recordAt, graphIn, graph-size, edges-size, NodeForm, nodeFormTest, node-form↔}
-use Rattle.answers.specs.Answers.{Answer, answer, INHABITED, told↔}
+use Rattle.answers.specs.declared.Verdict.{Verdict}
+use Rattle.answers.specs.declared.Verdict.the-variants.{Inhabited}
+use Rattle.answers.specs.Answers as Case
+use Rattle.answers.specs.Answers.{ofVerdict, case-when, Answer, answer, INHABITED, told↔}
 
 -- what is wanted of record 0: the root
 abbrev pub wanted : Description → List Literal
 wanted D = D .root ∷ []
 
--- 9: the head of a graph. A closing list is no graph
+-- 9: the head of a graph. Until lists are checked a closing list is 9 here, as it is for the line writer
 abbrev pub graphHead : List ℕ → Bool
 graphHead s = headTest s && eqb (byteAt s 0) 1
 
@@ -34,15 +37,9 @@ graphHead s = headTest s && eqb (byteAt s 0) 1
 abbrev pub formAt : List ℕ → ℕ → Option ℕ
 formAt s x = unless (nodeFormTest (length (recordAt s x))) 10 none
 
--- 11 to 15, of record x
-abbrev pub nodeAtTest : Description → List ℕ → ℕ → Option ℕ
-nodeAtTest D s x = let G = graphIn s in nodeRefusal storedGraph D (length G) (labelAt G) (wantedAt (wanted D) x) (nodeAt G x .label) (edgesAt G x)
-
--- 9; 10 over all records, rising; then records rising, the smallest of 11 to 15 within one
+-- 9; 10 over all records, rising; then the rules of the graph that the bytes are
 unfoldable pub graphTests : Description → List ℕ → Option Refusal
-graphTests D s = refuse 0 (unless (graphHead s) 9 none)
-    (refuseFrom (formAt s) (recordCount s) 0
-    (refuseFrom (nodeAtTest D s) (recordCount s) 0 none))
+graphTests D s = refuse 0 (unless (graphHead s) 9 none) (refuseFrom (formAt s) (recordCount s) 0 (graphRefusal storedGraph D (wanted D) (graphIn s)))
 
 -- the description's tests come first
 unfoldable pub graphRefused : List ℕ → List ℕ → Option Refusal
@@ -60,43 +57,28 @@ pub record GraphKept (D : Description) (s : List ℕ) : Type 0 where
   pub fits : GraphFits storedGraph (graphIn s)
   pub keeps : Keeps D (wanted D) (graphIn s)
 
--- records of that form have at most 32 edges
-few-edges : (s : List ℕ) → ((x : ℕ) → x < recordCount s → NodeForm (length (recordAt s x))) → (x : ℕ) → x < recordCount s
-    → So (storedGraph .edges (length (edgesAt (graphIn s) x)))
-few-edges s f x h = leb-so (length (edgesAt (graphIn s) x)) 32 (rw (edges-size s x h) (f x h .1 .1))
-
 -- none of 9 to 15 refuses exactly then
 pub kept↔ : (D : Description) (s : List ℕ) → (graphTests D s ≡ none) ↔ GraphKept D s
 unfolding graphTests
-kept↔ D s = simp (refuse↔, unless↔, records↔, reading, head↔, node-form↔, node↔) (
-  λ t. record {
-    head = t .0 .0 .0;
-    is-graph = t .0 .0 .1;
-    formed = λ x h. t .1 .0 x h .0;
-    fits = record {
-      edges-fit = λ x h. few-edges s (λ y k. t .1 .0 y k .0) x (rw (graph-size s) at h);
-      counts-fit = λ x h E m. leb-so _ _ (t .1 .1 .0 x (rw (graph-size s) at h) .1 E m);
-    };
-    keeps = record { some-node = rw (graph-size s) (t .0 .0 .0 .1 .0); nodes = λ x h. t .1 .1 .0 x (rw (graph-size s) at h) .0 };
-  },
-  λ k. (
-    ((k .head, k .is-graph), refl),
-    (
-      λ x h. (k .formed x h, refl),
-      (λ x h. (k .keeps .nodes x (rw (graph-size s) h), λ E m. so-leb _ _ (k .fits .counts-fit x (rw (graph-size s) h) E m)), refl),
-    ),
-  ),
+kept↔ D s = simp (refuse↔, unless↔, records↔, reading, head↔, node-form↔) (
+  λ t. let g = graph↔ storedGraph D (wanted D) (graphIn s) .0 (rw (graph-size s) (t .0 .0 .0 .1 .0), t .1 .1) in
+      record { head = t .0 .0 .0; is-graph = t .0 .0 .1; formed = λ x h. t .1 .0 x h .0; fits = g .1; keeps = g .0 },
+  λ k. (((k .head, k .is-graph), refl), (λ x h. (k .formed x h, refl), graph↔ storedGraph D (wanted D) (graphIn s) .1 (k .keeps, k .fits) .1)),
 )
 
 -- none of 1 to 15 refuses exactly if the description is accepted, too
-pub refused↔ : (d s : List ℕ) → (graphRefused d s ≡ none) ↔ (AcceptedBytes d × GraphKept (described d) s)
+pub not-refused↔ : (d s : List ℕ) → (graphRefused d s ≡ none) ↔ (AcceptedBytes d × GraphKept (described d) s)
 unfolding graphRefused
-refused↔ d s = simp (refuse↔, accepted-bytes↔, kept↔) (λ t. t, λ t. t)
+not-refused↔ d s = simp (refuse↔, accepted-bytes↔, kept↔) (λ t. t, λ t. t)
 
 -- and the answer is INHABITED exactly then
 pub inhabited↔ : (d s : List ℕ) → (graphAnswer d s ≡ answer INHABITED none) ↔ (AcceptedBytes d × GraphKept (described d) s)
-inhabited↔ d s = let w = told↔ INHABITED INHABITED (graphRefused d s) (λ e. let z : _≡_ {A = ℕ} 0 1 = cc in omega arith) in let k = refused↔ d s in
+inhabited↔ d s = let w = told↔ INHABITED INHABITED (graphRefused d s) (λ e. let z : _≡_ {A = ℕ} 0 1 = cc in omega arith) in let k = not-refused↔ d s in
     (λ e. k .0 (w .0 e .1), λ h. w .1 (refl, k .1 h))
+
+-- so for what check_graph answers
+pub inhabited-when : (d s : List ℕ) (v : Verdict) → ofVerdict v ≡ graphAnswer d s → (v ≡ Inhabited) ↔ (AcceptedBytes d × GraphKept (described d) s)
+inhabited-when d s v e = case-when (ofVerdict v) (graphAnswer d s) (answer INHABITED none) e (Case.inhabited↔ v) (inhabited↔ d s)
 
 -- and it is true: the line of the graph is a model of the description, and has the root
 pub inhabited-true : (d s : List ℕ) → graphAnswer d s ≡ answer INHABITED none

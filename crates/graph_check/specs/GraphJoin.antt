@@ -5,11 +5,11 @@ use mathlib.Core.Bool.{true, false}
 use mathlib.Core.List.{List}
 use mathlib.Core.Option.{Option, none}
 use native.Mathlib.Omega.{arith}
-use borrow.Author.Tests.{ne-eqb}
-use lib.Dec.{eqb}
+use borrow.Author.Tests.{ne-eqb, le-leb}
+use lib.Dec.{eqb, leb}
 use lib.ListN.{length}
 use Rattle.logic.specs.Tests.{and-l}
-use Rattle.logic.specs.Refusals.{Refusal, unless, unless↔, unless-then, refuse, refuseFrom}
+use Rattle.logic.specs.Refusals.{Refusal, unless, unless↔, unless-then, refuse, refuseFrom, records↔, records-then}
 use Rattle.logic.specs.Bounded.{allBelow}
 use Rattle.logic.specs.Lists.{each}
 use Rattle.parts.specs.Numbers.{upTo, up-to-all}
@@ -21,19 +21,35 @@ use Rattle.tables.specs.Tables.{describe}
 use Rattle.roles.specs.Ancestors.{AncestorsOf}
 use Rattle.intake.specs.Intake.{directoryTest, rolesPart, conceptsPart, queryPart, partsTest, parts-accepted, bytesTest}
 use Rattle.intake.specs.Steps.{tables-are}
-use Rattle.evidence.specs.Evidence.{recordCount, HeadOk, headTest, head↔, recordAt, edgesIn, edgesPart, graphIn, graph-size, NodeForm, nodeFormTest, node-form↔, labelOf}
+use Rattle.evidence.specs.Evidence.{recordCount, HeadOk, headTest, head↔, recordAt, edgesIn, edgesPart, graphIn, graph-size, edges-size, NodeForm, nodeFormTest, node-form↔, labelOf}
 use Rattle.evidence.specs.InPlace.{record-length, label-there, edges-there, edges-few}
-use Rattle.graph.specs.Graphs.{labelAt, wantedAt}
-use Rattle.graph.specs.GraphTests.{storedGraph, labelTest, bothTest, edgeTest, nodeRefusal}
+use Rattle.graph.specs.Graphs.{labelAt, nodeAt, edgesAt, wantedAt}
+use Rattle.graph.specs.GraphTests.{storedGraph, labelTest, bothTest, edgeTest, nodeRefusal, nodeForm, graphRefusal}
 use Rattle.nodes.specs.NodeSteps.{entryCount, labelCode, labelTestOf, isFirst, label-is, bothAt, both-is}
 use Rattle.edges.specs.EdgeSteps.{edgesCode, edges-are}
-use Rattle.fillers.specs.FillerSteps.{}
 use Rattle.fillers.specs.FillerLaws.{everys-are, counts-are}
 use Rattle.logic.specs.Refusals.{refuse-then, records-later, records-cong}
-use Rattle.graph_check.specs.GraphEvidence.{wanted, graphHead, formAt, nodeAtTest, graphTests, graphRefused, graphAnswer}
+use Rattle.graph_check.specs.GraphEvidence.{wanted, graphHead, formAt, graphTests, graphRefused, graphAnswer}
 use Rattle.answers.specs.declared.Verdict.the-variants.{Refused}
 use Rattle.answers.specs.Answers.{Answer, answer, INHABITED, ofVerdict}
 use Rattle.graph_check.specs.GraphSteps.{formOf, nodeCode, recordCode, recordsCode, graphCode, tablesCode}
+
+-- 11 to 15, of record x
+nodeAtTest : Description → List ℕ → ℕ → Option ℕ
+nodeAtTest D s x = let G = graphIn s in nodeRefusal storedGraph D (length G) (labelAt G) (wantedAt (wanted D) x) (nodeAt G x .label) (edgesAt G x)
+
+-- records of the form have at most 32 edges, so the graph's own test 10 passes
+rules-on : (D : Description) (s : List ℕ) → ((x : ℕ) → x < recordCount s → NodeForm (length (recordAt s x)))
+    → graphRefusal storedGraph D (wanted D) (graphIn s) ≡ refuseFrom (nodeAtTest D s) (recordCount s) 0 none
+unfolding graphRefusal nodeAtTest
+rules-on D s formed = ap (λ m. refuseFrom form m 0 (refuseFrom (nodeAtTest D s) m 0 none)) (graph-size s)
+    ∙ records-then form (recordCount s) 0 (refuseFrom (nodeAtTest D s) (recordCount s) 0 none) (records↔ form (recordCount s) none .1 (few, refl))
+  where
+    form : ℕ → Option ℕ
+    form x = nodeForm storedGraph (edgesAt (graphIn s) x)
+
+    few : (x : ℕ) → x < recordCount s → form x ≡ none
+    few x h = let z : length (edgesAt (graphIn s) x) ≤ 32 = rw (edges-size s x h) (formed x h .1 .1) in rw (le-leb _ _ z) refl
 
 first-is : (x : ℕ) → eqb x 0 ≡ isFirst x
 first-is zero = refl
@@ -55,7 +71,7 @@ module _ (rs cs qs a : List ℕ) (anc : AncestorsOf rs a) (few : length rs / 3 �
     labels y h l = ap (λ N. members N l) (label-there s head formed y h)
 
     node-is : (x : ℕ) → x < n → recordCode rs cs qs a s n x ≡ nodeAtTest D s x
-    unfolding nodeCode nodeRefusal
+    unfolding nodeCode nodeRefusal nodeAtTest
     node-is x h = rw (label-there s head formed x h, edges-there s head formed x h, graph-size s) (
         unless-then _ _ 11 _ _ label (λ _.
         unless-then _ _ 12 _ _ both (λ _.
@@ -73,10 +89,10 @@ module _ (rs cs qs a : List ℕ) (anc : AncestorsOf rs a) (few : length rs / 3 �
         edges = ap (λ k. edgesCode a k n (edgesPart s x)) (up-to-all 16 (length rs / 3) few)
             ∙ edges-are rs cs qs a anc few (λ r q. anc-in D (acc .parents-in) r q) n (edgesPart s x) (edges-few s head formed x h)
 
-    records-are : refuseFrom (recordCode rs cs qs a s n) n 0 none ≡ refuseFrom (nodeAtTest D s) n 0 none
-    records-are = records-cong (recordCode rs cs qs a s n) (nodeAtTest D s) n 0 none (λ x _ h. node-is x (omega arith))
+    records-are : refuseFrom (recordCode rs cs qs a s n) n 0 none ≡ graphRefusal storedGraph D (wanted D) (graphIn s)
+    records-are = records-cong (recordCode rs cs qs a s n) (nodeAtTest D s) n 0 none (λ x _ h. node-is x (omega arith)) ∙ sym (rules-on D s formed)
 
-  forms-are : recordsCode rs cs qs a s n ≡ refuseFrom (formAt s) n 0 (refuseFrom (nodeAtTest D s) n 0 none)
+  forms-are : recordsCode rs cs qs a s n ≡ refuseFrom (formAt s) n 0 (graphRefusal storedGraph D (wanted D) (graphIn s))
   unfolding recordsCode
   forms-are = records-cong (formOf s) (formAt s) n 0 _ (λ x _ h. form-is x (omega arith))
       ∙ records-later (formAt s) n 0 _ _ (λ pass. records-are (λ x h. node-form↔ _ .0 (unless↔ _ 10 none .0 (pass x (omega arith) (omega arith)) .0)))

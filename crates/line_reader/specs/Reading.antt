@@ -12,7 +12,10 @@ use Rattle.intake.specs.Intake.{bytesTest, described, AcceptedBytes, accepted-b
 use Rattle.lines.specs.Lines.{lineIn, lineTest, LineOk, line↔}
 use Rattle.interpretation.specs.Models.{Model, Satisfies}
 use Rattle.interpretation.specs.Reading.{reads, reads↔}
-use Rattle.answers.specs.Answers.{Answer, HOLDS, FAILS, answer}
+use Rattle.answers.specs.declared.Reading.{Reading}
+use Rattle.answers.specs.declared.Reading.the-variants.{Holds, Fails}
+use Rattle.answers.specs.Answers as Case
+use Rattle.answers.specs.Answers.{ofReading, case-when, Answer, HOLDS, FAILS, answer}
 
 -- the refusal: 1 to 8, then 23; its record is 0
 unfoldable pub readRefusal : List ℕ → List ℕ → Option Refusal
@@ -70,3 +73,12 @@ fails↔ d s = (
 
     w : (readAnswer d s ≡ answer FAILS none) ↔ ((readRefusal d s ≡ none) × (So (reads (described d) (lineIn s) (described d .root ∷ [])) → ⊥))
     w = fails-said _ (readRefusal d s)
+
+-- ---- so for what read_interpretation answers
+pub holds-when : (d s : List ℕ) (r : Reading) → ofReading r ≡ readAnswer d s → (r ≡ Holds)
+    ↔ (AcceptedBytes d × (LineOk (described d) s × (Model (described d) (lineIn s) × Satisfies (described d) (described d .root ∷ []) (lineIn s))))
+holds-when d s r e = case-when (ofReading r) (readAnswer d s) (answer HOLDS none) e (Case.holds↔ r) (holds↔ d s)
+
+pub fails-when : (d s : List ℕ) (r : Reading) → ofReading r ≡ readAnswer d s → (r ≡ Fails)
+    ↔ (AcceptedBytes d × (LineOk (described d) s × ((Model (described d) (lineIn s) × Satisfies (described d) (described d .root ∷ []) (lineIn s)) → ⊥)))
+fails-when d s r e = case-when (ofReading r) (readAnswer d s) (answer FAILS none) e (Case.fails↔ r) (fails↔ d s)

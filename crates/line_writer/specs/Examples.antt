@@ -18,14 +18,14 @@ use Rattle.description.specs.Acceptance.{entryTest, descriptionTests}
 use Rattle.interpretation.specs.Meaning.{meaning, truthWith, truth}
 use Rattle.interpretation.specs.Reading.{includes, composes, follows, satisfies}
 use Rattle.graph.specs.Graphs.{total}
-use Rattle.graph.specs.GraphTests.{labelTest, bothTest, edgeTest, everyTest, countTest, nodeRefusal}
+use Rattle.graph.specs.GraphTests.{labelTest, bothTest, edgeTest, everyTest, countTest, nodeRefusal, graphRefusal}
 use Rattle.graph.specs.Line.{copies, joins, direct, pairs}
 use Rattle.intake.specs.Intake.{sizesTest, partsTest, bytesTest}
 use Rattle.evidence.specs.Evidence.{headTest, nodeFormTest}
 use Rattle.lines.specs.Lines.{lineTest, lineByte}
 use Rattle.answers.specs.Answers.{Answer, answer, WRITTEN, HOLDS, FAILS, REFUSED}
 use Rattle.graph_check.specs.GraphEvidence.{graphTests, graphRefused}
-use Rattle.graph_check.specs.Examples.{third, filled}
+use Rattle.graph_check.specs.Examples.{parts, entry, node, edge, one, first, third, filled}
 use Rattle.line_reader.specs.Reading.{readRefusal, readAnswer}
 use Rattle.line_writer.specs.Writing.{writeRefused, writeAnswer, writeLength, bufferAfter}
 
@@ -36,7 +36,15 @@ row = 0 ∷ 0 ∷ 0 ∷ 0 ∷ 0 ∷ 1 ∷ 0 ∷ 1 ∷ []
 abbrev fourth : List ℕ
 fourth = 4 ∷ replicate 16 0 ++ row ++ row ++ replicate 16 0
 
+-- nine roles, and eight names after top
+abbrev names : List ℕ
+names = entry 1 0 0 0 0 ++ entry 1 0 0 0 0
+
+abbrev wide : List ℕ
+wide = parts (replicate 27 0) (entry 0 0 0 0 0 ++ names ++ names ++ names ++ names) (16 ∷ [])
+
 record Trial : Type 0 where
+  pub description : List ℕ
   pub evidence : List ℕ
   pub buffer : List ℕ
   pub told : Answer
@@ -44,37 +52,51 @@ record Trial : Type 0 where
   pub after : List ℕ
 
 -- a refusal leaves the buffer as it is
-abbrev refused : List ℕ → List ℕ → ℕ → Trial
-refused s old n = record { evidence = s; buffer = old; told = answer WRITTEN (some (record { number = n; place = 0 })); long = 0; after = old }
+abbrev refused : List ℕ → List ℕ → List ℕ → ℕ → Trial
+refused d s old n = record { description = d; evidence = s; buffer = old; told = answer WRITTEN (some (record { number = n; place = 0 })); long = 0; after = old }
 
 trials : List Trial
 trials =
     -- 49 bytes hold it, a longer buffer keeps its other bytes, 48 are too few
-    record { evidence = filled 2; buffer = replicate 49 165; told = answer WRITTEN none; long = 49; after = fourth }
-    ∷ record { evidence = filled 2; buffer = replicate 51 165; told = answer WRITTEN none; long = 49; after = fourth ++ 165 ∷ 165 ∷ [] }
-    ∷ refused (filled 2) (replicate 48 165) 22
+    record { description = third; evidence = filled 2; buffer = replicate 49 165; told = answer WRITTEN none; long = 49; after = fourth }
+    ∷ record { description = third; evidence = filled 2; buffer = replicate 51 165; told = answer WRITTEN none; long = 49; after = fourth ++ 165 ∷ 165 ∷ [] }
+    ∷ refused third (filled 2) (replicate 48 165) 22
     -- a broken rule comes before a short buffer
-    ∷ refused (filled 3) [] 15
-    ∷ refused [] (replicate 49 165) 9
+    ∷ refused third (filled 3) [] 15
+    ∷ refused third [] (replicate 49 165) 9
+    -- a loop of count 64 makes 64 copies, one of 65 too many; K is known before either
+    ∷ refused first (one (node 1 (edge 0 1 64))) [] 22
+    ∷ refused first (one (node 1 (edge 0 1 65))) [] 21
+    -- name entry 8 and role 8, whose bits are in the higher bytes
+    ∷ record {
+      description = wide;
+      evidence = one (0 ∷ 0 ∷ 0 ∷ 0 ∷ 0 ∷ 1 ∷ 0 ∷ 1 ∷ edge 0 256 1);
+      buffer = replicate 7 165;
+      told = answer WRITTEN none;
+      long = 7;
+      after = 1 ∷ 0 ∷ 0 ∷ 1 ∷ 0 ∷ 1 ∷ 0 ∷ [];
+    }
     ∷ []
 
 -- the answer, the length and every byte of the buffer, by the definitions
 abbrev tried : Trial → Trial
 tried t = record {
+  description = t .description;
   evidence = t .evidence;
   buffer = t .buffer;
-  told = writeAnswer third (t .evidence) (length (t .buffer));
-  long = writeLength third (t .evidence) (length (t .buffer));
-  after = bufferAfter third (t .evidence) (t .buffer);
+  told = writeAnswer (t .description) (t .evidence) (length (t .buffer));
+  long = writeLength (t .description) (t .evidence) (length (t .buffer));
+  after = bufferAfter (t .description) (t .evidence) (t .buffer);
 }
 
 trials-hold : map tried trials ≡ trials
-unfolding trials writeRefused graphRefused graphTests refuseFrom headTest nodeFormTest nodeRefusal labelTest bothTest edgeTest everyTest countTest total each some? tabulate members nonempty
+unfolding trials writeRefused graphRefused graphTests graphRefusal refuseFrom headTest nodeFormTest nodeRefusal labelTest bothTest edgeTest everyTest countTest total each some? tabulate members nonempty
     bytesTest partsTest sizesTest fills fillsFrom descriptionTests allBelow anyBelow narrow entryTest literal entryFrom ifBoth ifLeast ifEvery simple ancestor closure has sameEntry
     copies maxBelow lineByte setOf joins direct pairs
 trials-hold = refl
 
--- the line is read as a model with the root; with a filler less it is none; cut short, or with a bit for no role, it has not the form
+-- the line is read as a model with the root, also where element 1 has a filler less; where 0 and 1 have, it is none; cut short, or with a bit for no role,
+-- it has not the form
 reads-hold : map (readAnswer third) (
     fourth
     ∷ (4 ∷ replicate 16 0 ++ row ++ (0 ∷ 0 ∷ 0 ∷ 0 ∷ 0 ∷ 1 ∷ 0 ∷ 0 ∷ []) ++ replicate 16 0)

@@ -1,4 +1,4 @@
--- What the writer writes, the reader answers HOLDS to.
+-- What the writer writes, the reader answers HOLDS to (01, "The written line").
 use Prim.Native.Nat.{ℕ, _<_}
 use mathlib.Core.Path.{_≡_, _∙_, ap}
 use mathlib.Core.List.{List, _++_, List·Memᴰ·cases-cons}
@@ -18,7 +18,7 @@ use Rattle.evidence.specs.Evidence.{graphIn}
 use Rattle.graph_check.specs.GraphEvidence.{wanted}
 use Rattle.line_reader.specs.Reading.{readAnswer, holds↔}
 use Rattle.answers.specs.Answers.{answer, WRITTEN, HOLDS, told↔}
-use Rattle.line_writer.specs.Writing.{lineOf, writeRefused, writeAnswer, unlessRefused, bufferAfter, written↔}
+use Rattle.line_writer.specs.Writing.{lineOf, writeRefused, writeAnswer, writeLength, unlessRefused, bufferAfter, written↔}
 
 -- the root is a literal of the table
 wanted-in : (d : List ℕ) → AcceptedBytes d → (l : Literal) → l ∈ wanted (described d) → entryOf l < described d .entries
@@ -39,9 +39,9 @@ line-holds d s n e = let w = written↔ d s n .0 e in let D = described d in let
       ),
     )
 
--- so what stands at the front of the buffer after WRITTEN is answered HOLDS
+-- so as many bytes of the buffer as are answered are answered HOLDS
 pub read-back : (d s old : List ℕ) → writeAnswer d s (length old) ≡ answer WRITTEN none
-    → readAnswer d (take (lineLength (lineOf d s .size)) (bufferAfter d s old)) ≡ answer HOLDS none
+    → readAnswer d (take (writeLength d s (length old)) (bufferAfter d s old)) ≡ answer HOLDS none
 read-back d s old e = ap (readAnswer d) front ∙ line-holds d s (length old) e
   where
     none-refuses : writeRefused d s (length old) ≡ none
@@ -53,5 +53,5 @@ read-back d s old e = ap (readAnswer d) front ∙ line-holds d s (length old) e
     n : ℕ
     n = lineLength (lineOf d s .size)
 
-    front : take n (bufferAfter d s old) ≡ line
-    front = ap (λ o. take n (unlessRefused old (line ++ drop n old) o)) none-refuses ∙ take-at line (drop n old) n (length-tabulate n (lineByte (described d) (lineOf d s)))
+    front : take (writeLength d s (length old)) (bufferAfter d s old) ≡ line
+    front = ap (λ o. take (unlessRefused 0 n o) (unlessRefused old (line ++ drop n old) o)) none-refuses ∙ take-at line (drop n old) n (length-tabulate n (lineByte (described d) (lineOf d s)))

@@ -107,7 +107,6 @@ module _ (rs cs qs : List ℕ) (A : Accepted (describe rs cs qs)) (few : length 
       closed-mask = closed-is D A few (wanted D) (graphIn s) keeps (maskAt b d)
           (λ x y hx hy r. ap (λ m. has m r) (mask-is x y hx hy) ∙ direct-is x y hx r) t transitive a ancestors
 
-      -- all bytes of the buffer: the number of elements, the name masks, the closed role masks, and then the old bytes
       -- outside the role masks nothing is closed
       outside : (p : ℕ) → lineLength d ≤ length b → (nameAt d ≤ p → p < lineLength d → ⊥) → closedByte b d t a p ≡ byteAt b p
       unfolding closedByte
@@ -124,6 +123,7 @@ module _ (rs cs qs : List ℕ) (A : Accepted (describe rs cs qs)) (few : length 
           some : 0 < d
           some = omega (arith, mul-le-mul (keeps .some-node) (copies-pos (graphIn s)))
 
+      -- all bytes of the buffer: the number of elements, the name masks, the closed role masks, and then the old bytes
       pub line-written : (old new : List ℕ) → length b ≡ length old → lineLength d ≤ length old → byteAt b 0 ≡ d
           → ((p : ℕ) → 1 ≤ p → p < nameAt d → byteAt b p ≡ byteOf 4 (elementNames cs s k ((p - 1) / 4)) ((p - 1) % 4))
           → ((p : ℕ) → lineLength d ≤ p → byteAt b p ≡ byteAt old p)

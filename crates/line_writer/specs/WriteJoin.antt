@@ -1,4 +1,4 @@
--- The bytes that the code writes are those of the line of the graph.
+-- Direct pairs, closed on masks and handed to the ancestors, are the pairs of the line of the graph (01, "The written line").
 use Prim.Native.Nat.{ℕ, _*_, _/_, _%_, _≤_, _<_}
 use mathlib.Core.Path.{_≡_, sym, _∙_, ap}
 use mathlib.Core.Logic.{_↔_, inl, inr}

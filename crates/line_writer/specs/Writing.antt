@@ -14,8 +14,11 @@ use Rattle.graph.specs.Line.{line}
 use Rattle.lines.specs.Lines.{lineLength, mostElements, lineBytes}
 use Rattle.intake.specs.Intake.{described, AcceptedBytes}
 use Rattle.evidence.specs.Evidence.{graphIn}
-use Rattle.graph_check.specs.GraphEvidence.{graphRefused, GraphKept, refused↔}
-use Rattle.answers.specs.Answers.{Answer, answer, WRITTEN, told↔}
+use Rattle.graph_check.specs.GraphEvidence.{graphRefused, GraphKept, not-refused↔}
+use Rattle.answers.specs.declared.Written.{Written}
+use Rattle.answers.specs.declared.Written.the-variants.{Line}
+use Rattle.answers.specs.Answers as Case
+use Rattle.answers.specs.Answers.{ofWritten, lengthOf, case-when, Answer, answer, WRITTEN, told↔}
 
 -- the line of the graph that the evidence is
 abbrev pub lineOf : List ℕ → List ℕ → Interpretation
@@ -53,4 +56,9 @@ written↔ d s n = let w = told↔ WRITTEN WRITTEN (writeRefused d s n) (λ e. l
     (λ e. k .0 (w .0 e .1), λ h. w .1 (refl, k .1 h))
   where
     room↔ : (writeRefused d s n ≡ none) ↔ ((AcceptedBytes d × GraphKept (described d) s) × ((lineOf d s .size ≤ mostElements) × (lineLength (lineOf d s .size) ≤ n)))
-    room↔ = simp (first↔, refused↔, refuse↔, unless↔, reading) (λ t. (t .0, (t .1 .0 .0, t .1 .0 .1 .0)), λ t. (t .0, ((t .1 .0, (t .1 .1, refl)), refl)))
+    room↔ = simp (first↔, not-refused↔, refuse↔, unless↔, reading) (λ t. (t .0, (t .1 .0 .0, t .1 .0 .1 .0)), λ t. (t .0, ((t .1 .0, (t .1 .1, refl)), refl)))
+
+-- so for what write_interpretation answers
+pub written-when : (d s : List ℕ) (n : ℕ) (w : Written) → ofWritten w ≡ writeAnswer d s n → (w ≡ Line (lengthOf w))
+    ↔ ((AcceptedBytes d × GraphKept (described d) s) × ((lineOf d s .size ≤ mostElements) × (lineLength (lineOf d s .size) ≤ n)))
+written-when d s n w e = case-when (ofWritten w) (writeAnswer d s n) (answer WRITTEN none) e (Case.written↔ w) (written↔ d s n)

@@ -119,10 +119,6 @@ pub count-done : (p : ℕ → Bool) (i n k : ℕ) → i ≤ k → k ≤ i → n 
 count-done p i n k h g e = let z : i ≡ k = omega arith in rw z at e
 
 -- ---- as code has them, in a word of 64 digits
-pub put-word : (x i : ℕ) → i < 64 → bitOr x (1 * 2 ^ i % 2 ^ 64) ≡ with x i
-unfolding with
-put-word x i h = ap (bitOr x) (rw one-mul (mod-eq-of-lt (pow-lt {j = 64} h)))
-
 -- a digit
 pub bit-only : (x i : ℕ) → x / 2 ^ i % 2 ≡ only (has x i) 1
 unfolding has

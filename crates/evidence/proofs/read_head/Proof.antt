@@ -1,5 +1,5 @@
 use mathlib.Core.Path.{sym, _∙_}
-use Rattle.evidence.specs.Evidence.{head-graph, head-refutation, head-off}
+use Rattle.evidence.specs.Evidence.{head-graph, head-refutation, head-off, head-told}
 use borrow.Author.Needs.{needs}
 use Rattle.evidence.proofs.read_head.Statement.{statement}
 use Rattle.evidence.proofs.read_head.Tie as tie
@@ -21,13 +21,13 @@ byte-requires-3 : tie.Need-byte-requires-3
 byte-requires-3 c κs = search needs
 
 returns : tie.Need-returns
-returns c = head-graph (c .before .before .before .before .before .before .args .s .now) (sym (c .before .before .before .before .head-ok .ensures) ∙ c .before .before .before .if1 .taken) (sym (c .before .before .byte .ensures) ∙ c .before .if2 .taken) _ (c .byte2 .ensures)
+returns c = head-told _ _ (head-graph (c .before .before .before .before .before .before .args .s .now) (sym (c .before .before .before .before .head-ok .ensures) ∙ c .before .before .before .if1 .taken) (sym (c .before .before .byte .ensures) ∙ c .before .if2 .taken) _ (c .byte2 .ensures))
 
 returns-2 : tie.Need-returns-2
-returns-2 c = head-refutation (c .before .before .before .before .before .before .args .s .now) (sym (c .before .before .before .before .head-ok .ensures) ∙ c .before .before .before .if1 .taken) (λ e. c .before .if2 .left (c .before .before .byte .ensures ∙ e)) _ (c .byte3 .ensures)
+returns-2 c = head-told _ _ (head-refutation (c .before .before .before .before .before .before .args .s .now) (sym (c .before .before .before .before .head-ok .ensures) ∙ c .before .before .before .if1 .taken) (λ e. c .before .if2 .left (c .before .before .byte .ensures ∙ e)) _ (c .byte3 .ensures))
 
 returns-3 : tie.Need-returns-3
-returns-3 c = head-off (c .before .before .before .args .s .now) (sym (c .before .head-ok .ensures) ∙ c .if1 .left)
+returns-3 c = head-told _ _ (head-off (c .before .before .before .args .s .now) (sym (c .before .head-ok .ensures) ∙ c .if1 .left))
 
 pub read-head-spec : {M : Type 1} → statement M
 read-head-spec =
