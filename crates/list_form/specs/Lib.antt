@@ -1,0 +1,3 @@
+pub mod ListForm
+pub mod FormSteps
+pub mod FormLaws

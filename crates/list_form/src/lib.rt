@@ -1,0 +1,111 @@
+// The form of a refutation's record behind its label: test 10.
+ghost use mathlib.Core.Path.{_≡_};
+ghost use mathlib.Core.Bool.{_&&_};
+ghost use Prim.Native.Nat.{_+_, _≤_, _<_, _^_};
+ghost use lib.Dec.{eqb};
+ghost use lib.ListN.{length};
+ghost use Rattle.list_form.specs.ListForm.{nodeIn, treeIn, treeAt, countingIn, stepIn};
+ghost use Rattle.list_form.specs.FormSteps.{placeOf, formed};
+use parts::byte;
+
+// What stands at a place of a tree: a leaf with the place where it ends, a split, or neither.
+enum Node {
+    Leaf(usize),
+    Split,
+    Off,
+}
+
+// Where a tree ends, if it has its form.
+enum Place {
+    At(usize),
+    Nowhere,
+}
+
+// The node at `at`; a leaf has a multiplier for each of `limits` bounds.
+fn read_node(ds: &[u8], limits: u8, at: usize) -> Node
+    requires { ⌜ at ≤ length (now ds) ⌝ }
+    ensures { λ r. ⌜ r ≡ nodeIn (now (ds .entry)) limits at ⌝ }
+{
+    let tag = byte(ds, at);
+    let leaf = (at < ds.len()) & (tag == 0);
+    if leaf {
+        let end = at + 1 + (limits as usize);
+        if ds.len() < end {
+            return Node::Off;
+        }
+        return Node::Leaf(end);
+    }
+    let split = (at + 4 <= ds.len()) & (tag == 1);
+    if split {
+        return Node::Split;
+    }
+    Node::Off
+}
+
+// Where the tree at `at` ends, with at most `left` splits above a leaf, under `limits` bounds.
+fn tree_end(ds: &[u8], left: u8, limits: u8, at: usize) -> Place
+    requires { ⌜ (left + limits ≤ 14) × (at ≤ length (now ds)) ⌝ }
+    ensures { λ r. ⌜ r ≡ placeOf (treeIn (now (ds .entry)) left limits at) ⌝ }
+{
+    let node = read_node(ds, limits, at);
+    match node {
+        Node::Off => Place::Nowhere,
+        Node::Leaf(end) => Place::At(end),
+        Node::Split => {
+            if left == 0 {
+                return Place::Nowhere;
+            }
+            let first = tree_end(ds, left - 1, limits + 1, at + 4);
+            let Place::At(next) = first else {
+                return Place::Nowhere;
+            };
+            tree_end(ds, left - 1, limits + 1, next)
+        }
+    }
+}
+
+// Where the tree of a counting step with `k` rows begins: behind the step byte, `k`, the row literals and the cells.
+fn tree_start(k: u8) -> usize
+    requires { ⌜ k ≤ 6 ⌝ }
+    ensures { λ r. ⌜ r ≡ treeAt k ⌝ }
+{
+    2 + (k as usize) + ((1 << (k as usize)) - 1)
+}
+
+// The form of a counting step with `k` rows.
+fn counting_form(ds: &[u8], k: u8) -> bool
+    ensures { λ r. ⌜ r ≡ formed (countingIn (now (ds .entry)) k) ⌝ }
+{
+    if k < 1 {
+        return false;
+    }
+    if 6 < k {
+        return false;
+    }
+    let start = tree_start(k);
+    if ds.len() < start {
+        return false;
+    }
+    let place = tree_end(ds, 8, k, start);
+    match place {
+        Place::At(end) => end == ds.len(),
+        Place::Nowhere => false,
+    }
+}
+
+// Test 10 of the bytes behind a label: a known step, its data, and nothing more.
+pub fn step_form(ds: &[u8]) -> bool
+    ensures { λ r. ⌜ r ≡ formed (stepIn (now (ds .entry))) ⌝ }
+{
+    let step = byte(ds, 0);
+    let n = ds.len();
+    match step {
+        1 => n == 2,
+        2 => n == 3,
+        3 => n == 4,
+        4 => n == 3,
+        5 => n == 4,
+        6 => counting_form(ds, byte(ds, 1)),
+        _ => false,
+    }
+}
