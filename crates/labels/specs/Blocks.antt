@@ -5,12 +5,12 @@ use mathlib.Core.Bool.{Bool, true, false, _&&_}
 use native.Mathlib.Omega.{arith}
 use native.Mathlib.Decide.{decLt}
 use native.Mathlib.Nat.{div-one, div-eq-of-lt}
-use lib.Pow.{high, low, pow-mono, shr-shr}
-use lib.Bits.{bitAnd, and-block, and-lt, block-half, block-odd}
+use lib.Pow.{high, low, pow-add, pow-lt, pow-mono, pow-pos, shl-exact, shr-shr}
+use lib.Bits.{bitAnd, bitOr, and-block, and-lt, or-block, or-zero-r, block-half, block-odd}
 use lib.Dec.{eqb, ltb}
 use borrow.Author.Tests.{eq-eqb, ne-eqb, eqb-true, eqb-false}
 use Rattle.logic.specs.Tests.{so-and, and-l, and-r, so-eqb, so-ltb, same-test}
-use Rattle.logic.specs.Sets.{has, narrow, within}
+use Rattle.logic.specs.Sets.{has, narrow, within, with}
 use Rattle.logic.specs.SetLaws.{has-suc, narrow↔}
 
 -- the number whose upper word is hi and whose lower word, of k digits, is lo
@@ -64,3 +64,19 @@ narrow-high k hi lo n h g = same-test _ _
     ]))
     (λ u. narrow↔ hi (n - k) .1 (λ i m. let e : k + i - k ≡ i = omega arith in
     let w = narrow↔ (block k hi lo) n .0 u (k + i) (sym (has-high k hi lo (k + i) h (omega arith)) ∙ ap (has hi) e ∙ m) in omega arith))
+
+-- the set of i alone, in a word of k digits
+pub single-word : (k i : ℕ) → i < k → (1 * 2 ^ i) % 2 ^ k ≡ 2 ^ i
+single-word k i h = let z : 1 * 2 ^ i ≡ 2 ^ i = omega arith in shl-exact 1 i k (omega arith) (omega arith) ∙ z
+
+-- a member put in, by words
+pub with-low : (k hi lo i : ℕ) → lo < 2 ^ k → i < k → block k hi (with lo i) ≡ with (block k hi lo) i
+unfolding with
+with-low k hi lo i h g = let z : 0 * 2 ^ k + 2 ^ i ≡ 2 ^ i = omega arith in
+    ap (λ (n : ℕ). block k n (bitOr lo (2 ^ i))) (sym (or-zero-r hi)) ∙ sym (or-block k hi 0 lo (2 ^ i) h (pow-lt g)) ∙ ap (bitOr (block k hi lo)) z
+
+pub with-high : (k hi lo i : ℕ) → lo < 2 ^ k → k ≤ i → block k (with hi (i - k)) lo ≡ with (block k hi lo) i
+unfolding with
+with-high k hi lo i h g =
+    let e : 2 ^ (i - k) * 2 ^ k + 0 ≡ 2 ^ i = (let a : i - k + k ≡ i = omega arith in let z : 2 ^ (i - k) * 2 ^ k + 0 ≡ 2 ^ (i - k) * 2 ^ k = omega arith in z ∙ sym (pow-add 2 (i - k) k) ∙ ap (λ (n : ℕ). 2 ^ n) a) in
+    ap (λ (n : ℕ). block k (bitOr hi (2 ^ (i - k))) n) (sym (or-zero-r lo)) ∙ sym (or-block k hi (2 ^ (i - k)) lo 0 h (pow-pos k)) ∙ ap (λ (n : ℕ). bitOr (block k hi lo) n) e

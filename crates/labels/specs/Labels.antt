@@ -3,7 +3,10 @@ use Prim.Native.Nat.{ℕ, _+_, _≤_}
 use mathlib.Core.Path.{_≡_, refl}
 use mathlib.Core.List.{List}
 use native.Mathlib.Omega.{arith}
+use mathlib.Core.Bool.{cond}
+use lib.Dec.{ltb}
 use lib.ListN.{length}
+use Rattle.logic.specs.Sets.{with}
 use Rattle.parts.specs.Numbers.{num2, past}
 use Rattle.labels.specs.Blocks.{block}
 use Rattle.labels.specs.declared.Label.{Label}
@@ -18,6 +21,10 @@ labelIn s at = block 32 (num4 s at) (num4 s (at + 4))
 -- the set that the two words are
 abbrev pub valueOf : Label → ℕ
 valueOf x = block 32 (x .high) (x .low)
+
+-- the label with a literal put in; it has room for 64
+unfoldable pub labelWith : ℕ → ℕ → ℕ
+labelWith N l = cond (ltb l 64) (with N l) N
 
 -- past the end they are 0
 pub past4 : (s : List ℕ) (at : ℕ) → length s ≤ at → 0 ≡ num4 s at

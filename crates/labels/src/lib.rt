@@ -2,7 +2,7 @@
 ghost use mathlib.Core.Path.{_≡_};
 ghost use Prim.Native.Nat.{_<_};
 ghost use Rattle.logic.specs.Sets.{has, narrow, within};
-ghost use Rattle.labels.specs.Labels.{num4, labelIn, valueOf};
+ghost use Rattle.labels.specs.Labels.{num4, labelIn, labelWith, valueOf};
 use parts::byte;
 use parts::mask2;
 
@@ -92,4 +92,23 @@ pub fn holds_at(s: &[u8], at: usize, l: u8) -> bool
     }
     let x = byte(s, at + (7 - (l / 8) as usize));
     (x >> (l % 8)) % 2 == 1
+}
+
+// The label with the literal `l` put in.
+pub fn put(x: Label, l: u8) -> Label
+    ensures { λ r. ⌜ valueOf r ≡ labelWith (valueOf x) l ⌝ }
+{
+    if l < 32 {
+        return Label {
+            high: x.high,
+            low: x.low | (1 << l),
+        };
+    }
+    if l < 64 {
+        return Label {
+            high: x.high | (1 << (l - 32)),
+            low: x.low,
+        };
+    }
+    x
 }
