@@ -5,7 +5,7 @@ use mathlib.Core.Bool.{Bool, true, false, _&&_}
 use native.Mathlib.Omega.{arith}
 use native.Mathlib.Decide.{decLt}
 use native.Mathlib.Nat.{div-one, div-eq-of-lt}
-use lib.Pow.{high, low, pow-add, pow-lt, pow-mono, pow-pos, shl-exact, shr-shr}
+use lib.Pow.{high, low, pow-add, pow-lt, pow-mono, pow-pos, shr-shr}
 use lib.Bits.{bitAnd, bitOr, and-block, and-lt, or-block, or-zero-r, block-half, block-odd}
 use lib.Dec.{eqb, ltb}
 use borrow.Author.Tests.{eq-eqb, ne-eqb, eqb-true, eqb-false}
@@ -64,10 +64,6 @@ narrow-high k hi lo n h g = same-test _ _
     ]))
     (λ u. narrow↔ hi (n - k) .1 (λ i m. let e : k + i - k ≡ i = omega arith in
     let w = narrow↔ (block k hi lo) n .0 u (k + i) (sym (has-high k hi lo (k + i) h (omega arith)) ∙ ap (has hi) e ∙ m) in omega arith))
-
--- the set of i alone, in a word of k digits
-pub single-word : (k i : ℕ) → i < k → (1 * 2 ^ i) % 2 ^ k ≡ 2 ^ i
-single-word k i h = let z : 1 * 2 ^ i ≡ 2 ^ i = omega arith in shl-exact 1 i k (omega arith) (omega arith) ∙ z
 
 -- a member put in, by words
 pub with-low : (k hi lo i : ℕ) → lo < 2 ^ k → i < k → block k hi (with lo i) ≡ with (block k hi lo) i

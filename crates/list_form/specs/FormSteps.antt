@@ -9,9 +9,9 @@ use borrow.Author.Tests.{le-leb, lt-leb}
 use lib.Dec.{eqb, leb, ltb}
 use lib.ListN.{length}
 use native.Mathlib.Numerals.{add-one}
-use native.Mathlib.Nat.{one-mul, mod-eq-of-lt}
 use lib.Pow.{pow-mono, pow-pos}
 use Rattle.logic.specs.Tests.{so-leb}
+use Rattle.logic.specs.SetLaws.{single-word}
 use Rattle.counting.specs.Trees.{Tree, split}
 use Rattle.parts.specs.Numbers.{byteAt, num2}
 use Rattle.list_form.specs.ListForm.{Placed, nodeIn, byNode, leafIn, treeIn, andThen, given, treeAt, mostDepth, countingIn, sized, stepOf, stepIn}
@@ -161,8 +161,7 @@ split-room ds limits at e = go (ltb at (length ds) && eqb (byteAt ds at) 0) (leb
 -- ---- laws for a counting step
 -- the shift that gives 2 ^ k
 pub shifted : (k : ℕ) → k ≤ 6 → (1 * 2 ^ k % 2 ^ 64 ≡ 2 ^ k) × (1 ≤ 2 ^ k) × (2 ^ k ≤ 64)
-shifted k h = let z : 2 ^ k ≤ 2 ^ 6 = pow-mono h in let w : 1 * 2 ^ k ≡ 2 ^ k = one-mul (2 ^ k) in
-    (rw w (mod-eq-of-lt (let y : 2 ^ k < 2 ^ 64 = omega arith in y)), pow-pos k, omega arith)
+shifted k h = let z : 2 ^ k ≤ 2 ^ 6 = pow-mono h in (single-word 64 k (omega arith), pow-pos k, omega arith)
 
 module _ (ds : List ℕ) (k : ℕ) where
   pub rows-none : k < 1 → false ≡ formed (countingIn ds k)

@@ -98,10 +98,14 @@ nonempty↔ n = (
   ]),
 )
 
+-- the set of i alone in a word of k digits, as code makes it: a shifted 1
+pub single-word : (k i : ℕ) → i < k → 1 * 2 ^ i % 2 ^ k ≡ 2 ^ i
+single-word k i h = ap (λ m. m % 2 ^ k) (one-mul (2 ^ i)) ∙ mod-eq-of-lt (pow-lt h)
+
 -- a set below n in a word of k digits, as code tests it: against a shifted 1
 pub narrow-word : (k x n : ℕ) → n < k → ltb x (1 * 2 ^ n % 2 ^ k) ≡ narrow x n
 unfolding narrow
-narrow-word k x n h = ap (ltb x) (ap (λ m. m % 2 ^ k) (one-mul (2 ^ n)) ∙ mod-eq-of-lt (pow-lt h))
+narrow-word k x n h = ap (ltb x) (single-word k n h)
 
 -- every word of k digits is below n from k on
 pub narrow-whole : (k x n : ℕ) → x < 2 ^ k → k ≤ n → true ≡ narrow x n

@@ -3,8 +3,9 @@ use Prim.Native.Nat.{_-_}
 use native.Mathlib.Omega.{arith}
 use borrow.Author.Tests.{lt-ltb, le-ltb}
 use Rattle.logic.specs.Sets.{with}
+use Rattle.logic.specs.SetLaws.{single-word}
 use Rattle.labels.specs.Labels.{labelWith}
-use Rattle.labels.specs.Blocks.{single-word, with-low, with-high}
+use Rattle.labels.specs.Blocks.{with-low, with-high}
 use borrow.Author.Needs.{needs}
 use Rattle.labels.proofs.put.Statement.{statement}
 use Rattle.labels.proofs.put.Tie as tie
