@@ -71,6 +71,11 @@ inhabited↔ Verdicts.the-variants.Inhabited = (λ _. refl, λ _. refl)
 inhabited↔ Verdicts.the-variants.Empty = (λ e. absurd (let w = ap (λ (x : Answer). x .word) e in let z : _≡_ {A = ℕ} 0 1 = cc in omega arith), λ e. absurd (let z : _≡_ {A = ℕ} 0 1 = cc in omega arith))
 inhabited↔ (Verdicts.the-variants.Refused n r) = (λ e. absurd (let w = ap (λ (x : Answer). x .word) e in let z : _≡_ {A = ℕ} 0 1 = cc in omega arith), λ e. absurd (let z : _≡_ {A = ℕ} 0 1 = cc in omega arith))
 
+pub empty↔ : (v : Verdicts.Verdict) → (ofVerdict v ≡ answer EMPTY none) ↔ (v ≡ Verdicts.the-variants.Empty)
+empty↔ Verdicts.the-variants.Empty = (λ _. refl, λ _. refl)
+empty↔ Verdicts.the-variants.Inhabited = (λ e. absurd (let w = ap (λ (x : Answer). x .word) e in let z : _≡_ {A = ℕ} 0 1 = cc in omega arith), λ e. absurd (let z : _≡_ {A = ℕ} 0 1 = cc in omega arith))
+empty↔ (Verdicts.the-variants.Refused n r) = (λ e. absurd (let w = ap (λ (x : Answer). x .word) e in let z : _≡_ {A = ℕ} 0 1 = cc in omega arith), λ e. absurd (let z : _≡_ {A = ℕ} 0 1 = cc in omega arith))
+
 pub written↔ : (w : Writings.Written) → (ofWritten w ≡ answer WRITTEN none) ↔ (w ≡ Writings.the-variants.Line (lengthOf w))
 written↔ (Writings.the-variants.Line n) = (λ _. refl, λ _. refl)
 written↔ (Writings.the-variants.Refused n r) = (λ e. absurd (let w = ap (λ (x : Answer). x .word) e in let z : _≡_ {A = ℕ} 0 1 = cc in omega arith), λ e. absurd (let z : _≡_ {A = ℕ} 0 1 = cc in omega arith))

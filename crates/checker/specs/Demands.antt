@@ -12,7 +12,7 @@ use Rattle.logic.specs.Lists.{_∈_}
 use Rattle.counting.specs.Rows.{Solves, Fillers}
 use Rattle.counting.specs.Solutions.{fillers}
 use Rattle.description.specs.Literals.{Literal, entryOf}
-use Rattle.description.specs.Descriptions.{Description}
+use Rattle.description.specs.Descriptions.{Description, wanted}
 use Rattle.description.specs.Acceptance.{descriptionRefusal, Accepted, accepted↔}
 use Rattle.interpretation.specs.Meaning.{Interpretation}
 use Rattle.interpretation.specs.Models.{Model, Satisfies}
@@ -25,10 +25,6 @@ use Rattle.refutation.specs.Records.{Refutation, RefutationLimits, RefutationFi
 use Rattle.refutation.specs.RecordTests.{anyRefutation, refutationRefusal, refutation↔, lifted-refutation↔}
 use Rattle.refutation.specs.Sound.{refutation-sound}
 use Rattle.completeness.specs.Dichotomy.{exactly-one, small-graph}
-
--- what is wanted of a plain question: the root
-abbrev pub wanted : Description → List Literal
-wanted D = D .root ∷ []
 
 wanted-in : (D : Description) → Accepted D → (l : Literal) → l ∈ wanted D → entryOf l < D .entries
 wanted-in D A l m = elim (List·Memᴰ·cases-cons m) [ inl e ↦ subst (λ k. entryOf k < D .entries) (sym e) (A .root-in) | inr t ↦ elim t [ ] ]

@@ -16,7 +16,7 @@ use Rattle.logic.specs.Sets.{has, nonempty, narrow, within, with, setOf}
 use Rattle.logic.specs.Sums.{maxBelow}
 use Rattle.counting.specs.Trees.{Tree, leaf, formed, depth, leafTest, treeTest}
 use Rattle.description.specs.Literals.{Literal, literal, members, adding, labelOf}
-use Rattle.description.specs.Descriptions.{Entry, top, both, every, atLeast, Description, sameEntry, ifBoth, ifEvery, ifLeast, isBoth}
+use Rattle.description.specs.Descriptions.{Entry, top, both, every, atLeast, Description, sameEntry, ifBoth, ifEvery, ifLeast, isBoth, wanted}
 use Rattle.description.specs.Roles.{ancestor, simple}
 use Rattle.description.specs.Acceptance.{entryTest, descriptionRefusal, descriptionTests, accepted↔}
 use Rattle.description.specs.Examples.{under, transitiveUnder, tableOf, lit}
@@ -28,7 +28,7 @@ use Rattle.graph.specs.Line.{copies, joins, direct, pairs, line}
 use Rattle.refutation.specs.Cells.{rowsOf, bounds, cellRole, known}
 use Rattle.refutation.specs.Records.{Cell, unshown, cited, Step, contradiction, conjunction, counting, Record, Refutation}
 use Rattle.refutation.specs.RecordTests.{storedRefutation, whenCounting, ifCited, citeTest, stepTest, recordRefusal, endLabel, refutationRefusal}
-use Rattle.checker.specs.Demands.{wanted, inhabited-when, empty-when, inhabited-true, empty-true}
+use Rattle.checker.specs.Demands.{inhabited-when, empty-when, inhabited-true, empty-true}
 
 -- ---- evidence by numbers: a label, and row literals, by their literals' numbers
 abbrev pub set : List ℕ → ℕ

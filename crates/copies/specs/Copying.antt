@@ -11,7 +11,7 @@ use lib.Dec.{eqb, ltb}
 use lib.ListN.{length, drop}
 use Rattle.logic.specs.Tests.{so-false}
 use Rattle.logic.specs.Lists.{tabulate, length-tabulate, at-tabulate}
-use Rattle.logic.specs.Sums.{sumBelow, only, maxBelow}
+use Rattle.logic.specs.Sums.{sumBelow, only, maxBelow, sum-front}
 use Rattle.logic.specs.Sets.{has}
 use Rattle.logic.specs.SetLaws.{no-member}
 use Rattle.parts.specs.Numbers.{up-to-all}
@@ -108,11 +108,6 @@ module _ (s : List ℕ) (n x : ℕ) where
   copies-end m h k p = p ∙ ap (λ i. max 1 (maxBelow i (mostFrom s n))) (omega arith)
 
 -- ---- they are the graph's
-sum-front : (n : ℕ) (f : ℕ → ℕ) → sumBelow (suc n) f ≡ f 0 + sumBelow n (λ i. f (suc i))
-unfolding sumBelow
-sum-front zero f = omega arith
-sum-front (suc n) f = omega (arith, sum-front n f)
-
 total-tabulate : (k : ℕ) (f : ℕ → Edge) (p : Edge → Bool) → sumBelow k (λ i. only (p (f i)) (f i .count)) ≡ total (tabulate k f) p
 unfolding sumBelow total tabulate
 total-tabulate zero f p = refl

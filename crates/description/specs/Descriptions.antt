@@ -4,6 +4,7 @@ use mathlib.Core.Path.{_≡_, refl, sym, _∙_, ap, subst}
 use mathlib.Core.Logic.{_↔_}
 use mathlib.Core.Bool.{Bool, true, false, _&&_, false≢true}
 use mathlib.Core.Option.{Option, none, some, Option·some-injective}
+use mathlib.Core.List.{List, [], _∷_}
 use lib.Dec.{eqb}
 use Rattle.logic.specs.Tests.{So, so-and, eqb-so, reading}
 use Rattle.logic.specs.Sets.{has}
@@ -99,6 +100,10 @@ sameEntry↔ x y = (
   λ h. sym (entry-back x) ∙ ap entryOfFields (sameFields↔ (fieldsOf x) (fieldsOf y) .0 h) ∙ entry-back y,
   λ e. sameFields↔ (fieldsOf x) (fieldsOf y) .1 (ap fieldsOf e),
 )
+
+-- what is wanted of a plain question: the root
+abbrev pub wanted : Description → List Literal
+wanted D = D .root ∷ []
 
 -- ---- what an entry gives by its kind: in turn for kinds 0 and 1, for "both", for "every", for "at least"
 abbrev pub byKind : {A : Type 0} → A → (Literal → Literal → A) → (ℕ → Literal → A) → (ℕ → Literal → ℕ → A) → Entry → A

@@ -4,7 +4,7 @@ use mathlib.Core.Path.{_≡_, refl, sym, _∙_, ap, ap₂}
 use mathlib.Core.List.{List, [], _∷_}
 use native.Mathlib.Omega.{arith}
 use native.Mathlib.Nat.{sub-zero, add-zero}
-use borrow.Author.Tests.{le-leb}
+use borrow.Author.Tests.{le-leb, lt-leb}
 use lib.ListN.{length, take, drop, length-take, length-drop}
 use lib.Seq.{take-nil, drop-drop, getD-take, getD-drop}
 use Rattle.parts.specs.Numbers.{byteAt, num2}
@@ -22,7 +22,7 @@ module _ (s : List ℕ) (i : ℕ) (labelled : 8 ≤ lengthAt s 2 i) (inside : en
   drop-take (suc a) (suc b) [] = sym (take-nil (suc b - suc a))
   drop-take (suc a) (suc b) (x ∷ l) = let z : suc b - suc a ≡ b - a = omega arith in rw z (drop-take a b l)
 
-  edges-part-is : edgesPart s i ≡ drop 8 (recordAt s i)
+  pub edges-part-is : edgesPart s i ≡ drop 8 (recordAt s i)
   unfolding edgesPart
   edges-part-is = rw (le-leb _ _ labelled, le-leb _ _ inside) (sym (drop-take 8 (lengthAt s 2 i) (drop (offsetAt s 2 i) s) ∙ ap (take (lengthAt s 2 i - 8)) (drop-drop 8 (offsetAt s 2 i) s)))
 
@@ -33,16 +33,21 @@ module _ (s : List ℕ) (i : ℕ) (labelled : 8 ≤ lengthAt s 2 i) (inside : en
   record-num2 k h = let e : offsetAt s 2 i + (k + 1) ≡ offsetAt s 2 i + k + 1 = omega arith in
       ap₂ (λ (a b : ℕ). a * 256 + b) (record-byte k (omega arith)) (record-byte (k + 1) (omega arith) ∙ ap (byteAt s) e)
 
-  label-part-is : labelIn (recordAt s i) 0 ≡ labelIn s (offsetAt s 2 i)
+  pub label-part-is : labelIn (recordAt s i) 0 ≡ labelIn s (offsetAt s 2 i)
   label-part-is = ap₂ (block 32) (four 0 (omega arith) ∙ ap (num4 s) (add-zero (offsetAt s 2 i))) (four 4 (omega arith))
     where
       four : (k : ℕ) → k < 5 → num4 (recordAt s i) k ≡ num4 s (offsetAt s 2 i + k)
       four k h = let e : offsetAt s 2 i + (k + 2) ≡ offsetAt s 2 i + k + 2 = omega arith in
           ap₂ (block 16) (record-num2 k (omega arith)) (record-num2 (k + 2) (omega arith) ∙ ap (num2 s) e)
 
+-- a record without a label has nothing behind it
+pub edges-part-none : (s : List ℕ) (i : ℕ) → lengthAt s 2 i < 8 → edgesPart s i ≡ []
+unfolding edgesPart
+edges-part-none s i h = rw (lt-leb 8 (lengthAt s 2 i) h) refl
+
 -- ---- all records
 module _ (s : List ℕ) (head : HeadOk s) where
-  record-inside : (x : ℕ) → x < recordCount s → endAt s 2 x ≤ length s
+  pub record-inside : (x : ℕ) → x < recordCount s → endAt s 2 x ≤ length s
   record-inside x h = pair-inside s 2 (recordCount s) _ x (head .1 .1 .1) h
 
   pub record-length : (x : ℕ) → x < recordCount s → length (recordAt s x) ≡ lengthAt s 2 x

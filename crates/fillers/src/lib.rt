@@ -154,7 +154,7 @@ fn has_above(cs: &[u8], x: Label, above: u16, l: u8) -> bool
 }
 
 // Whether `r` is transitive and the label holds "every q l" for an ancestor `q` of `r`.
-fn is_carried(rs: &[u8], cs: &[u8], a: [u16; 16], x: Label, r: RoleNo, l: u8) -> bool
+pub fn is_carried(rs: &[u8], cs: &[u8], a: [u16; 16], x: Label, r: RoleNo, l: u8) -> bool
     ensures { λ q. ⌜ q ≡ carried (now (rs .entry)) (now (cs .entry)) a (valueOf x) (r .0) l ⌝ }
 {
     let role = r.0 as usize;

@@ -1,13 +1,13 @@
 -- Worked examples: bytes of a description and of evidence, and the answer; P1, P3, P5 and P10 of 01, and each test on both sides.
-use Prim.Native.Nat.{ℕ, _+_, _*_, _/_, _%_}
+use Prim.Native.Nat.{ℕ, _+_, _/_, _%_}
 use mathlib.Core.Path.{_≡_, refl}
 use mathlib.Core.List.{List, [], _∷_, _++_, map}
-use mathlib.Core.Option.{none, some}
+use mathlib.Core.Option.{Option, none, some}
 use lib.ListN.{length, replicate}
 use Rattle.logic.specs.Bounded.{allBelow, anyBelow}
 use Rattle.logic.specs.Closure.{closure}
 use Rattle.logic.specs.Lists.{each, some?, tabulate}
-use Rattle.logic.specs.Refusals.{refuseFrom}
+use Rattle.logic.specs.Refusals.{Refusal, refuseFrom}
 use Rattle.logic.specs.Sets.{has, narrow, nonempty}
 use Rattle.parts.specs.Pairs.{fills, fillsFrom}
 use Rattle.description.specs.Literals.{literal, members}
@@ -18,13 +18,12 @@ use Rattle.graph.specs.Graphs.{total}
 use Rattle.graph.specs.GraphTests.{labelTest, bothTest, edgeTest, everyTest, countTest, nodeRefusal, graphRefusal}
 use Rattle.intake.specs.Intake.{sizesTest, partsTest, bytesTest}
 use Rattle.evidence.specs.Evidence.{headTest, nodeFormTest}
-use Rattle.answers.specs.Answers.{Answer, answer, INHABITED}
-use Rattle.graph_check.specs.GraphEvidence.{graphTests, graphRefused, graphAnswer}
+use Rattle.graph_check.specs.GraphEvidence.{graphTests, graphRefused}
 
 record Trial : Type 0 where
   pub description : List ℕ
   pub evidence : List ℕ
-  pub told : Answer
+  pub told : Option Refusal
 
 abbrev number : ℕ → List ℕ
 number n = n / 256 ∷ n % 256 ∷ []
@@ -51,11 +50,11 @@ one a = 1 ∷ 1 ∷ number 6 ++ number (length a) ++ a
 abbrev pub two : List ℕ → List ℕ → List ℕ
 two a b = 1 ∷ 2 ∷ number 10 ++ number (length a) ++ number (10 + length a) ++ number (length b) ++ a ++ b
 
-abbrev inhabited : Answer
-inhabited = answer INHABITED none
+abbrev inhabited : Option Refusal
+inhabited = none
 
-abbrev refused : ℕ → ℕ → Answer
-refused n r = answer INHABITED (some (record { number = n; place = r }))
+abbrev refused : ℕ → ℕ → Option Refusal
+refused n r = some (record { number = n; place = r })
 
 -- P1, byte by byte: one role, the entry top, the root top; and its evidence
 abbrev pub first : List ℕ
@@ -80,7 +79,7 @@ every = parts (1 ∷ 0 ∷ 2 ∷ 0 ∷ 0 ∷ 0 ∷ []) (entry 0 0 0 0 0 ++ entry
 abbrev lacking : List ℕ
 lacking = parts (1 ∷ 0 ∷ 2 ∷ 0 ∷ 0 ∷ 0 ∷ []) (entry 0 0 0 0 0 ++ entry 1 0 0 0 0 ++ entry 3 1 2 0 0 ++ entry 3 0 2 0 0) (5 ∷ [])
 
-abbrev trial : List ℕ → List ℕ → Answer → Trial
+abbrev trial : List ℕ → List ℕ → Option Refusal → Trial
 trial d s t = record { description = d; evidence = s; told = t }
 
 trials : List Trial
@@ -131,7 +130,7 @@ trials =
     ∷ trial lacking (two (node 33 (edge 1 2 1)) (node 1 [])) (refused 14 0)
     ∷ []
 
-trials-hold : map (λ t. graphAnswer (t .description) (t .evidence)) trials ≡ map (λ t. t .told) trials
+trials-hold : map (λ t. graphRefused (t .description) (t .evidence)) trials ≡ map (λ t. t .told) trials
 unfolding trials graphRefused graphTests graphRefusal refuseFrom headTest nodeFormTest nodeRefusal labelTest bothTest edgeTest everyTest countTest total each some? tabulate members nonempty
     bytesTest partsTest sizesTest fills fillsFrom descriptionTests allBelow anyBelow narrow entryTest literal entryFrom ifBoth ifLeast ifEvery simple ancestor closure has sameEntry
 trials-hold = refl

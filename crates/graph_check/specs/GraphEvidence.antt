@@ -1,35 +1,22 @@
--- Tests 9 to 15 on the bytes of a graph, after those of the description, and that their answer is exact and true (01, "Evidence"; FORMAT 4, 8).
+-- Tests 9 to 15 on the bytes of a graph, after those of the description, and what it is to pass them (01, "Evidence"; FORMAT 4, 8).
 use Prim.Native.Nat.{ℕ, _<_}
 use mathlib.Core.Path.{_≡_, refl}
 use mathlib.Core.Logic.{_↔_}
 use mathlib.Core.Bool.{Bool, _&&_}
-use mathlib.Core.List.{List, [], _∷_}
+use mathlib.Core.List.{List}
 use mathlib.Core.Option.{Option, none}
-use native.Mathlib.Omega.{arith}
 use lib.Dec.{eqb}
 use lib.ListN.{length}
-use Rattle.logic.specs.Tests.{So, so-leb, leb-so, reading}
+use Rattle.logic.specs.Tests.{reading}
 use Rattle.logic.specs.Refusals.{Refusal, unless, unless↔, refuse, refuse↔, refuseFrom, records↔}
-use Rattle.description.specs.Literals.{Literal}
-use Rattle.description.specs.Descriptions.{Description}
+use Rattle.description.specs.Descriptions.{Description, wanted}
 use Rattle.parts.specs.Numbers.{byteAt}
-use Rattle.interpretation.specs.Models.{Model, Satisfies}
-use Rattle.graph.specs.Graphs.{labelAt, nodeAt, edgesAt, wantedAt, Keeps, GraphFits}
+use Rattle.graph.specs.Graphs.{Keeps, GraphFits}
 use Rattle.graph.specs.GraphTests.{storedGraph, graphRefusal, graph↔}
-use Rattle.graph.specs.Line.{line}
-use Rattle.graph.specs.Sound.{graph-sound}
 use Rattle.intake.specs.Intake.{bytesTest, described, AcceptedBytes, accepted-bytes↔}
-use Rattle.evidence.specs.Evidence.{recordCount, HeadOk, headTest, head↔, recordAt, graphIn, graph-size, edges-size, NodeForm, nodeFormTest, node-form↔}
-use Rattle.answers.specs.declared.Verdict.{Verdict}
-use Rattle.answers.specs.declared.Verdict.the-variants.{Inhabited}
-use Rattle.answers.specs.Answers as Case
-use Rattle.answers.specs.Answers.{ofVerdict, case-when, Answer, answer, INHABITED, told↔}
+use Rattle.evidence.specs.Evidence.{recordCount, HeadOk, headTest, head↔, recordAt, graphIn, graph-size, NodeForm, nodeFormTest, node-form↔}
 
--- what is wanted of record 0: the root
-abbrev pub wanted : Description → List Literal
-wanted D = D .root ∷ []
-
--- 9: the head of a graph. Until lists are checked a closing list is 9 here, as it is for the line writer
+-- 9: the head of a graph
 abbrev pub graphHead : List ℕ → Bool
 graphHead s = headTest s && eqb (byteAt s 0) 1
 
@@ -45,10 +32,7 @@ graphTests D s = refuse 0 (unless (graphHead s) 9 none) (refuseFrom (formAt s) (
 unfoldable pub graphRefused : List ℕ → List ℕ → Option Refusal
 graphRefused d s = refuse 0 (bytesTest d) (graphTests (described d) s)
 
-abbrev pub graphAnswer : List ℕ → List ℕ → Answer
-graphAnswer d s = answer INHABITED (graphRefused d s)
-
--- ---- exactly when, and what it means
+-- ---- exactly when
 -- the bytes have the form of a graph, and the graph that they are is within the limits and keeps the rules
 pub record GraphKept (D : Description) (s : List ℕ) : Type 0 where
   pub head : HeadOk s
@@ -70,17 +54,3 @@ kept↔ D s = simp (refuse↔, unless↔, records↔, reading, head↔, node-for
 pub not-refused↔ : (d s : List ℕ) → (graphRefused d s ≡ none) ↔ (AcceptedBytes d × GraphKept (described d) s)
 unfolding graphRefused
 not-refused↔ d s = simp (refuse↔, accepted-bytes↔, kept↔) (λ t. t, λ t. t)
-
--- and the answer is INHABITED exactly then
-pub inhabited↔ : (d s : List ℕ) → (graphAnswer d s ≡ answer INHABITED none) ↔ (AcceptedBytes d × GraphKept (described d) s)
-inhabited↔ d s = let w = told↔ INHABITED INHABITED (graphRefused d s) (λ e. let z : _≡_ {A = ℕ} 0 1 = cc in omega arith) in let k = not-refused↔ d s in
-    (λ e. k .0 (w .0 e .1), λ h. w .1 (refl, k .1 h))
-
--- so for what check_graph answers
-pub inhabited-when : (d s : List ℕ) (v : Verdict) → ofVerdict v ≡ graphAnswer d s → (v ≡ Inhabited) ↔ (AcceptedBytes d × GraphKept (described d) s)
-inhabited-when d s v e = case-when (ofVerdict v) (graphAnswer d s) (answer INHABITED none) e (Case.inhabited↔ v) (inhabited↔ d s)
-
--- and it is true: the line of the graph is a model of the description, and has the root
-pub inhabited-true : (d s : List ℕ) → graphAnswer d s ≡ answer INHABITED none
-    → let D = described d in Model D (line D (graphIn s)) × Satisfies D (wanted D) (line D (graphIn s))
-inhabited-true d s e = let k = inhabited↔ d s .0 e in graph-sound (described d) (k .0 .accepted) (wanted (described d)) (graphIn s) (k .1 .keeps)

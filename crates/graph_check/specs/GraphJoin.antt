@@ -1,25 +1,24 @@
 -- For an accepted description, the tests that the code makes are those of GraphEvidence.
 use Prim.Native.Nat.{ℕ, zero, suc, _/_, _≤_, _<_}
 use mathlib.Core.Path.{_≡_, refl, sym, _∙_, ap, ap₂}
-use mathlib.Core.Bool.{true, false}
 use mathlib.Core.List.{List}
 use mathlib.Core.Option.{Option, none}
 use native.Mathlib.Omega.{arith}
 use borrow.Author.Tests.{ne-eqb, le-leb}
-use lib.Dec.{eqb, leb}
+use lib.Dec.{eqb}
 use lib.ListN.{length}
 use Rattle.logic.specs.Tests.{and-l}
-use Rattle.logic.specs.Refusals.{Refusal, unless, unless↔, unless-then, refuse, refuseFrom, records↔, records-then}
+use Rattle.logic.specs.Refusals.{unless, unless↔, unless-then, refuse, refuseFrom, records↔, records-then}
 use Rattle.logic.specs.Bounded.{allBelow}
 use Rattle.logic.specs.Lists.{each}
 use Rattle.parts.specs.Numbers.{upTo, up-to-all}
 use Rattle.description.specs.Literals.{Literal, members}
-use Rattle.description.specs.Descriptions.{Description}
+use Rattle.description.specs.Descriptions.{Description, wanted}
 use Rattle.description.specs.Roles.{anc-in}
 use Rattle.description.specs.Acceptance.{Accepted}
 use Rattle.tables.specs.Tables.{describe}
 use Rattle.roles.specs.Ancestors.{AncestorsOf}
-use Rattle.intake.specs.Intake.{directoryTest, rolesPart, conceptsPart, queryPart, partsTest, parts-accepted, bytesTest}
+use Rattle.intake.specs.Intake.{partsTest, parts-accepted}
 use Rattle.intake.specs.Steps.{tables-are}
 use Rattle.evidence.specs.Evidence.{recordCount, HeadOk, headTest, head↔, recordAt, edgesIn, edgesPart, graphIn, graph-size, edges-size, NodeForm, nodeFormTest, node-form↔, labelOf}
 use Rattle.evidence.specs.InPlace.{record-length, label-there, edges-there, edges-few}
@@ -29,9 +28,7 @@ use Rattle.nodes.specs.NodeSteps.{entryCount, labelCode, labelTestOf, isFirst, 
 use Rattle.edges.specs.EdgeSteps.{edgesCode, edges-are}
 use Rattle.fillers.specs.FillerLaws.{everys-are, counts-are}
 use Rattle.logic.specs.Refusals.{refuse-then, records-later, records-cong}
-use Rattle.graph_check.specs.GraphEvidence.{wanted, graphHead, formAt, graphTests, graphRefused, graphAnswer}
-use Rattle.answers.specs.declared.Verdict.the-variants.{Refused}
-use Rattle.answers.specs.Answers.{Answer, answer, INHABITED, ofVerdict}
+use Rattle.graph_check.specs.GraphEvidence.{graphHead, formAt, graphTests}
 use Rattle.graph_check.specs.GraphSteps.{formOf, nodeCode, recordCode, recordsCode, graphCode, tablesCode}
 
 -- 11 to 15, of record x
@@ -107,22 +104,3 @@ graph-is rs cs qs a s anc e = let k = parts-accepted rs cs qs e in
 pub tables-code-is : (rs cs qs a s : List ℕ) → AncestorsOf rs a → tablesCode rs cs qs a s ≡ refuse 0 (partsTest rs cs qs) (graphTests (describe rs cs qs) s)
 tables-code-is rs cs qs a s anc = ap (λ o. refuse 0 o (graphCode rs cs qs a s)) (tables-are rs cs qs a anc)
     ∙ refuse-then 0 (partsTest rs cs qs) _ _ (graph-is rs cs qs a s anc)
-
--- ---- the answer
-unfoldable pub partsAnswer : List ℕ → List ℕ → List ℕ → List ℕ → Answer
-partsAnswer rs cs qs s = answer INHABITED (refuse 0 (partsTest rs cs qs) (graphTests (describe rs cs qs) s))
-
-module _ (rs cs qs a s : List ℕ) (anc : AncestorsOf rs a) where
-  -- what tests 2 to 15 give is answered
-  pub parts-told : (o : Option Refusal) → o ≡ tablesCode rs cs qs a s → answer INHABITED o ≡ partsAnswer rs cs qs s
-  unfolding partsAnswer
-  parts-told o e = ap (answer INHABITED) (e ∙ tables-code-is rs cs qs a s anc)
-
-module _ (d s : List ℕ) where
-  pub directory-told : directoryTest d ≡ false → ofVerdict (Refused 1 0) ≡ graphAnswer d s
-  unfolding graphRefused bytesTest
-  directory-told e = rw e refl
-
-  pub directory-on : (rs cs qs : List ℕ) → directoryTest d ≡ true → rs ≡ rolesPart d → cs ≡ conceptsPart d → qs ≡ queryPart d → partsAnswer rs cs qs s ≡ graphAnswer d s
-  unfolding partsAnswer graphRefused bytesTest
-  directory-on rs cs qs e p q r = rw (p, q, r, e) refl

@@ -1,14 +1,11 @@
-// Tests 9 to 15 of a graph, and the answer to a description with a graph.
+// Tests 9 to 15 of a graph, after those of the tables.
 ghost use mathlib.Core.Path.{_≡_};
 ghost use mathlib.Core.Option.{none};
 ghost use Rattle.logic.specs.Refusals.{refuse, refuseFrom};
 ghost use Rattle.labels.specs.Labels.{valueOf};
-ghost use Rattle.answers.specs.Answers.{refusalOf, ofVerdict};
+ghost use Rattle.answers.specs.Answers.{refusalOf};
 ghost use Rattle.graph_check.specs.GraphSteps.{formCode, formOf, nodeCode, recordCode, recordsCode, graphCode, tablesCode};
-ghost use Rattle.graph_check.specs.GraphJoin.{partsAnswer};
-ghost use Rattle.graph_check.specs.GraphEvidence.{graphAnswer};
 use answers::Tested;
-use answers::Verdict;
 use edges::edges_ok;
 use evidence::Head;
 use evidence::node_form_ok;
@@ -17,14 +14,11 @@ use evidence::record_edges;
 use evidence::record_label;
 use fillers::counts_ok;
 use fillers::everys_ok;
-use intake::directory_ok;
 use intake::test_tables;
 use labels::Label;
 use nodes::boths_ok;
 use nodes::label_ok;
-use parts::part;
 use parts::read2;
-use roles::ancestors;
 
 // Test 10 of record `i`.
 fn form_ok(s: &[u8], i: u8) -> bool
@@ -143,25 +137,4 @@ pub fn test_sample(rs: &[u8], cs: &[u8], qs: &[u8], a: [u16; 16], s: &[u8]) -> T
         return t;
     };
     test_graph(rs, cs, qs, a, s)
-}
-
-// The answer to the parts of a description with a graph.
-fn check_parts(rs: &[u8], cs: &[u8], qs: &[u8], s: &[u8]) -> Verdict
-    ensures { λ r. ⌜ ofVerdict r ≡ partsAnswer (now (rs .entry)) (now (cs .entry)) (now (qs .entry)) (now (s .entry)) ⌝ }
-{
-    let t = test_sample(rs, cs, qs, ancestors(rs), s);
-    match t {
-        Tested::Fine => Verdict::Inhabited,
-        Tested::Refused(n, i) => Verdict::Refused(n, i),
-    }
-}
-
-// The answer to a description with a graph.
-pub fn check_graph(d: &[u8], s: &[u8]) -> Verdict
-    ensures { λ r. ⌜ ofVerdict r ≡ graphAnswer (now (d .entry)) (now (s .entry)) ⌝ }
-{
-    if !directory_ok(d) {
-        return Verdict::Refused(1, 0);
-    }
-    check_parts(part(d, 0, 0), part(d, 0, 1), part(d, 0, 2), s)
 }

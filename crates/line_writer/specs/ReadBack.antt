@@ -7,6 +7,7 @@ use mathlib.Core.Option.{none}
 use native.Mathlib.Omega.{arith}
 use lib.ListN.{length, take, drop}
 use lib.Seq.{take-at}
+use Rattle.description.specs.Descriptions.{wanted}
 use Rattle.logic.specs.Lists.{_∈_, length-tabulate}
 use Rattle.description.specs.Literals.{Literal, entryOf}
 use Rattle.graph.specs.Sound.{graph-sound}
@@ -15,7 +16,6 @@ use Rattle.lines.specs.Alike.{model-alike, satisfies-alike}
 use Rattle.lines.specs.LineLaws.{back, back-ok}
 use Rattle.intake.specs.Intake.{described, AcceptedBytes, accepted-sizes}
 use Rattle.evidence.specs.Evidence.{graphIn}
-use Rattle.graph_check.specs.GraphEvidence.{wanted}
 use Rattle.line_reader.specs.Reading.{readAnswer, holds↔}
 use Rattle.answers.specs.Answers.{answer, WRITTEN, HOLDS, told↔}
 use Rattle.line_writer.specs.Writing.{lineOf, writeRefused, writeAnswer, writeLength, unlessRefused, bufferAfter, written↔}

@@ -15,7 +15,7 @@ use Rattle.logic.specs.Sets.{has, setOf}
 use Rattle.logic.specs.SetLaws.{setOf-cong, setOf↔}
 use Rattle.parts.specs.Numbers.{byteAt, up-to-all}
 use Rattle.description.specs.Literals.{members}
-use Rattle.description.specs.Descriptions.{Description, isName}
+use Rattle.description.specs.Descriptions.{Description, isName, wanted}
 use Rattle.description.specs.Roles.{ancestor}
 use Rattle.description.specs.Acceptance.{Accepted}
 use Rattle.tables.specs.Tables.{describe}
@@ -29,7 +29,6 @@ use Rattle.graph.specs.Line.{copies, joins, direct, line}
 use Rattle.graph.specs.Copies.{copies-pos}
 use Rattle.lines.specs.Lines.{nameAt, lineLength, nameMask, roleMask, byteOf, lineByte, pairByte, lineBytes}
 use Rattle.lines.specs.LineLaws.{pair-below, pair-row, pair-column, byte-size, byte-names, byte-pairs, written}
-use Rattle.graph_check.specs.GraphEvidence.{wanted}
 use Rattle.labels.specs.Labels.{num4}
 use Rattle.lines.specs.Laying.{Laid, Masks, Names, Bytes, four-local, byte-of-four, laid-one}
 use Rattle.line_writer.specs.WriteSteps.{namesIn, elementNames, transitivesIn, directMasks}

@@ -1,6 +1,6 @@
 -- Lists: membership, tests of all and of some members, the list of a function's first values, an element past the end.
 use Prim.Native.Nat.{ℕ, zero, suc, _+_, _≤_, _<_}
-use mathlib.Core.Path.{_≡_, refl, sym, _∙_, ap, subst}
+use mathlib.Core.Path.{_≡_, refl, sym, _∙_, ap, ap₂, subst}
 use mathlib.Core.Logic.{_↔_, _⊎_, inl, inr}
 use mathlib.Core.Bool.{Bool, true, false, _&&_, _||_, false≢true}
 use mathlib.Core.List.{List, [], _∷_, _++_, List·Memᴰ, List·Memᴰ·head, List·Memᴰ·tail, List·Memᴰ·cases-cons}
@@ -61,6 +61,17 @@ unfolding tabulate
 at-tabulate zero f d i h = absurd (omega arith)
 at-tabulate (suc n) f d zero h = refl
 at-tabulate (suc n) f d (suc i) h = at-tabulate n (λ j. f (suc j)) d i (omega arith)
+
+pub tabulate-cong : {A : Type 0} (n : ℕ) (f g : ℕ → A) → ((i : ℕ) → i < n → f i ≡ g i) → tabulate n f ≡ tabulate n g
+unfolding tabulate
+tabulate-cong zero f g h = refl
+tabulate-cong (suc n) f g h = ap₂ _∷_ (h 0 (omega arith)) (tabulate-cong n (λ i. f (suc i)) (λ i. g (suc i)) (λ i l. h (suc i) (omega arith)))
+
+-- one value more
+pub tabulate-snoc : {A : Type 0} (n : ℕ) (f : ℕ → A) → tabulate (suc n) f ≡ tabulate n f ++ (f n ∷ [])
+unfolding tabulate
+tabulate-snoc zero f = refl
+tabulate-snoc (suc n) f = ap (λ xs. f 0 ∷ xs) (tabulate-snoc n (λ i. f (suc i)))
 
 -- a test of all values is the test of each element
 all-front : (n : ℕ) (p : ℕ → Bool) → allBelow (suc n) p ≡ (p 0 && allBelow n (λ i. p (suc i)))

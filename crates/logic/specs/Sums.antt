@@ -166,3 +166,9 @@ count-classes d N f p h = sum-swap N d (λ c y. only (eqb (f y) c && p y) 1)
 
     same : (y : ℕ) → only (eqb (f y) (f y) && p y) 1 ≡ only (p y) 1
     same y = ap (λ b. only (b && p y) 1) (eqb-so (f y))
+
+-- the first number, and the rest
+pub sum-front : (n : ℕ) (f : ℕ → ℕ) → sumBelow (suc n) f ≡ f 0 + sumBelow n (λ i. f (suc i))
+unfolding sumBelow
+sum-front zero f = omega arith
+sum-front (suc n) f = omega (arith, sum-front n f)

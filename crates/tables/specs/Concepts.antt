@@ -38,6 +38,14 @@ conceptFrom F = conceptOf (entryOfFields (fieldsIn F))
 abbrev pub conceptAt : List ℕ → ℕ → Concept
 conceptAt cs e = conceptOf (entryOfFields (fieldsAt cs e))
 
+-- the bound that a concept carries, if it carries one
+abbrev pub boundIn : Concept → ℕ
+boundIn Top = 0
+boundIn Name = 0
+boundIn (Both a b) = 0
+boundIn (Every r l) = 0
+boundIn (AtLeast m) = m .bound
+
 -- ---- the concept of fields, kind by kind
 module _ (F : Fields) where
   pub as-top : F .kind ≡ 0 → Top ≡ conceptFrom F

@@ -4,7 +4,7 @@ ghost use mathlib.Core.Bool.{_&&_};
 ghost use Prim.Native.Nat.{_<_};
 ghost use lib.Dec.{eqb, leb, ltb};
 ghost use Rattle.tables.specs.Tables.{fieldsAt, fieldsTest};
-ghost use Rattle.tables.specs.Concepts.{fieldsStruct, fieldsIn, conceptAt};
+ghost use Rattle.tables.specs.Concepts.{fieldsStruct, fieldsIn, conceptAt, boundIn};
 use parts::byte;
 use parts::read2;
 
@@ -114,7 +114,7 @@ pub fn entry_ok(cs: &[u8], e: EntryNo, roles: usize) -> bool
 
 // The concept that entry `e` is; a kind above 4 is read as 4.
 pub fn concept_at(cs: &[u8], e: EntryNo) -> Concept
-    ensures { λ r. ⌜ r ≡ conceptAt (now (cs .entry)) (e .0) ⌝ }
+    ensures { λ r. ⌜ (r ≡ conceptAt (now (cs .entry)) (e .0)) × (boundIn r < 65536) ⌝ }
 {
     let f = fields_at(cs, e);
     let kind = f.kind;

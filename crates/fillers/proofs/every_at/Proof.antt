@@ -34,19 +34,19 @@ enum-told-4 : tie.Need-enum-told-4
 enum-told-4 c = search needs
 
 returns : tie.Need-returns
-returns c = let g = c .before .before .before .before .before .before .before .before .before .before .args in rw (c .every-holds .ensures, c .before .is-carried .ensures) (every-read (g .rs .now) (g .cs .now) (g .s .now) (g .a) (valueOf (g .x)) (g .es .now) (g .e .0) _ _ (c .before .before .before .before .before .concept-at .ensures) (c .before .before .before .c .given .1))
+returns c = let g = c .before .before .before .before .before .before .before .before .before .before .args in rw (c .every-holds .ensures, c .before .is-carried .ensures) (every-read (g .rs .now) (g .cs .now) (g .s .now) (g .a) (valueOf (g .x)) (g .es .now) (g .e .0) _ _ (c .before .before .before .before .before .concept-at .ensures .0) (c .before .before .before .c .given .1))
 
 returns-2 : tie.Need-returns-2
-returns-2 c = let g = c .before .before .before .before .before .before .before .args in every-read (g .rs .now) (g .cs .now) (g .s .now) (g .a) (valueOf (g .x)) (g .es .now) (g .e .0) _ _ (c .before .before .concept-at .ensures) (c .enum-told .given .1)
+returns-2 c = let g = c .before .before .before .before .before .before .before .args in every-read (g .rs .now) (g .cs .now) (g .s .now) (g .a) (valueOf (g .x)) (g .es .now) (g .e .0) _ _ (c .before .before .concept-at .ensures .0) (c .enum-told .given .1)
 
 returns-3 : tie.Need-returns-3
-returns-3 c = let g = c .before .before .before .before .before .before .before .args in every-read (g .rs .now) (g .cs .now) (g .s .now) (g .a) (valueOf (g .x)) (g .es .now) (g .e .0) _ _ (c .before .before .concept-at .ensures) (c .enum-told2 .given .1)
+returns-3 c = let g = c .before .before .before .before .before .before .before .args in every-read (g .rs .now) (g .cs .now) (g .s .now) (g .a) (valueOf (g .x)) (g .es .now) (g .e .0) _ _ (c .before .before .concept-at .ensures .0) (c .enum-told2 .given .1)
 
 returns-4 : tie.Need-returns-4
-returns-4 c = let g = c .before .before .before .before .before .before .before .args in every-read (g .rs .now) (g .cs .now) (g .s .now) (g .a) (valueOf (g .x)) (g .es .now) (g .e .0) _ _ (c .before .before .concept-at .ensures) (c .enum-told3 .given .1)
+returns-4 c = let g = c .before .before .before .before .before .before .before .args in every-read (g .rs .now) (g .cs .now) (g .s .now) (g .a) (valueOf (g .x)) (g .es .now) (g .e .0) _ _ (c .before .before .concept-at .ensures .0) (c .enum-told3 .given .1)
 
 returns-5 : tie.Need-returns-5
-returns-5 c = let g = c .before .before .before .before .before .before .before .args in every-read (g .rs .now) (g .cs .now) (g .s .now) (g .a) (valueOf (g .x)) (g .es .now) (g .e .0) _ _ (c .before .before .concept-at .ensures) (c .enum-told4 .given .1)
+returns-5 c = let g = c .before .before .before .before .before .before .before .args in every-read (g .rs .now) (g .cs .now) (g .s .now) (g .a) (valueOf (g .x)) (g .es .now) (g .e .0) _ _ (c .before .before .concept-at .ensures .0) (c .enum-told4 .given .1)
 
 pub every-at-spec : {M : Type 1} → statement M
 every-at-spec =

@@ -33,19 +33,19 @@ enum-told-4 : tie.Need-enum-told-4
 enum-told-4 c = search needs
 
 returns : tie.Need-returns
-returns c = c .every-ok .ensures ∙ (ap (ofEvery (λ r l. allBelow (length (c .before .before .before .before .before .before .before .args .rs .now) / 3) (everyBelowAt (c .before .before .before .before .before .before .before .args .rs .now) (c .before .before .before .before .before .before .before .args .cs .now) (c .before .before .before .before .before .before .before .args .a) r l))) (sym (c .before .before .c .given .1)) ∙ every-kind-read (c .before .before .before .before .before .before .before .args .cs .now) (λ r l. allBelow (length (c .before .before .before .before .before .before .before .args .rs .now) / 3) (everyBelowAt (c .before .before .before .before .before .before .before .args .rs .now) (c .before .before .before .before .before .before .before .args .cs .now) (c .before .before .before .before .before .before .before .args .a) r l)) (c .before .before .before .before .before .before .before .args .e .0) _ (c .before .before .before .before .concept-at .ensures))
+returns c = c .every-ok .ensures ∙ (ap (ofEvery (λ r l. allBelow (length (c .before .before .before .before .before .before .before .args .rs .now) / 3) (everyBelowAt (c .before .before .before .before .before .before .before .args .rs .now) (c .before .before .before .before .before .before .before .args .cs .now) (c .before .before .before .before .before .before .before .args .a) r l))) (sym (c .before .before .c .given .1)) ∙ every-kind-read (c .before .before .before .before .before .before .before .args .cs .now) (λ r l. allBelow (length (c .before .before .before .before .before .before .before .args .rs .now) / 3) (everyBelowAt (c .before .before .before .before .before .before .before .args .rs .now) (c .before .before .before .before .before .before .before .args .cs .now) (c .before .before .before .before .before .before .before .args .a) r l)) (c .before .before .before .before .before .before .before .args .e .0) _ (c .before .before .before .before .concept-at .ensures .0))
 
 returns-2 : tie.Need-returns-2
-returns-2 c = ap (ofEvery (λ r l. allBelow (length (c .before .before .before .before .before .args .rs .now) / 3) (everyBelowAt (c .before .before .before .before .before .args .rs .now) (c .before .before .before .before .before .args .cs .now) (c .before .before .before .before .before .args .a) r l))) (sym (c .enum-told .given .1)) ∙ every-kind-read (c .before .before .before .before .before .args .cs .now) (λ r l. allBelow (length (c .before .before .before .before .before .args .rs .now) / 3) (everyBelowAt (c .before .before .before .before .before .args .rs .now) (c .before .before .before .before .before .args .cs .now) (c .before .before .before .before .before .args .a) r l)) (c .before .before .before .before .before .args .e .0) _ (c .before .before .concept-at .ensures)
+returns-2 c = ap (ofEvery (λ r l. allBelow (length (c .before .before .before .before .before .args .rs .now) / 3) (everyBelowAt (c .before .before .before .before .before .args .rs .now) (c .before .before .before .before .before .args .cs .now) (c .before .before .before .before .before .args .a) r l))) (sym (c .enum-told .given .1)) ∙ every-kind-read (c .before .before .before .before .before .args .cs .now) (λ r l. allBelow (length (c .before .before .before .before .before .args .rs .now) / 3) (everyBelowAt (c .before .before .before .before .before .args .rs .now) (c .before .before .before .before .before .args .cs .now) (c .before .before .before .before .before .args .a) r l)) (c .before .before .before .before .before .args .e .0) _ (c .before .before .concept-at .ensures .0)
 
 returns-3 : tie.Need-returns-3
-returns-3 c = ap (ofEvery (λ r l. allBelow (length (c .before .before .before .before .before .args .rs .now) / 3) (everyBelowAt (c .before .before .before .before .before .args .rs .now) (c .before .before .before .before .before .args .cs .now) (c .before .before .before .before .before .args .a) r l))) (sym (c .enum-told2 .given .1)) ∙ every-kind-read (c .before .before .before .before .before .args .cs .now) (λ r l. allBelow (length (c .before .before .before .before .before .args .rs .now) / 3) (everyBelowAt (c .before .before .before .before .before .args .rs .now) (c .before .before .before .before .before .args .cs .now) (c .before .before .before .before .before .args .a) r l)) (c .before .before .before .before .before .args .e .0) _ (c .before .before .concept-at .ensures)
+returns-3 c = ap (ofEvery (λ r l. allBelow (length (c .before .before .before .before .before .args .rs .now) / 3) (everyBelowAt (c .before .before .before .before .before .args .rs .now) (c .before .before .before .before .before .args .cs .now) (c .before .before .before .before .before .args .a) r l))) (sym (c .enum-told2 .given .1)) ∙ every-kind-read (c .before .before .before .before .before .args .cs .now) (λ r l. allBelow (length (c .before .before .before .before .before .args .rs .now) / 3) (everyBelowAt (c .before .before .before .before .before .args .rs .now) (c .before .before .before .before .before .args .cs .now) (c .before .before .before .before .before .args .a) r l)) (c .before .before .before .before .before .args .e .0) _ (c .before .before .concept-at .ensures .0)
 
 returns-4 : tie.Need-returns-4
-returns-4 c = ap (ofEvery (λ r l. allBelow (length (c .before .before .before .before .before .args .rs .now) / 3) (everyBelowAt (c .before .before .before .before .before .args .rs .now) (c .before .before .before .before .before .args .cs .now) (c .before .before .before .before .before .args .a) r l))) (sym (c .enum-told3 .given .1)) ∙ every-kind-read (c .before .before .before .before .before .args .cs .now) (λ r l. allBelow (length (c .before .before .before .before .before .args .rs .now) / 3) (everyBelowAt (c .before .before .before .before .before .args .rs .now) (c .before .before .before .before .before .args .cs .now) (c .before .before .before .before .before .args .a) r l)) (c .before .before .before .before .before .args .e .0) _ (c .before .before .concept-at .ensures)
+returns-4 c = ap (ofEvery (λ r l. allBelow (length (c .before .before .before .before .before .args .rs .now) / 3) (everyBelowAt (c .before .before .before .before .before .args .rs .now) (c .before .before .before .before .before .args .cs .now) (c .before .before .before .before .before .args .a) r l))) (sym (c .enum-told3 .given .1)) ∙ every-kind-read (c .before .before .before .before .before .args .cs .now) (λ r l. allBelow (length (c .before .before .before .before .before .args .rs .now) / 3) (everyBelowAt (c .before .before .before .before .before .args .rs .now) (c .before .before .before .before .before .args .cs .now) (c .before .before .before .before .before .args .a) r l)) (c .before .before .before .before .before .args .e .0) _ (c .before .before .concept-at .ensures .0)
 
 returns-5 : tie.Need-returns-5
-returns-5 c = ap (ofEvery (λ r l. allBelow (length (c .before .before .before .before .before .args .rs .now) / 3) (everyBelowAt (c .before .before .before .before .before .args .rs .now) (c .before .before .before .before .before .args .cs .now) (c .before .before .before .before .before .args .a) r l))) (sym (c .enum-told4 .given .1)) ∙ every-kind-read (c .before .before .before .before .before .args .cs .now) (λ r l. allBelow (length (c .before .before .before .before .before .args .rs .now) / 3) (everyBelowAt (c .before .before .before .before .before .args .rs .now) (c .before .before .before .before .before .args .cs .now) (c .before .before .before .before .before .args .a) r l)) (c .before .before .before .before .before .args .e .0) _ (c .before .before .concept-at .ensures)
+returns-5 c = ap (ofEvery (λ r l. allBelow (length (c .before .before .before .before .before .args .rs .now) / 3) (everyBelowAt (c .before .before .before .before .before .args .rs .now) (c .before .before .before .before .before .args .cs .now) (c .before .before .before .before .before .args .a) r l))) (sym (c .enum-told4 .given .1)) ∙ every-kind-read (c .before .before .before .before .before .args .cs .now) (λ r l. allBelow (length (c .before .before .before .before .before .args .rs .now) / 3) (everyBelowAt (c .before .before .before .before .before .args .rs .now) (c .before .before .before .before .before .args .cs .now) (c .before .before .before .before .before .args .a) r l)) (c .before .before .before .before .before .args .e .0) _ (c .before .before .concept-at .ensures .0)
 
 pub every-at-spec : {M : Type 1} → statement M
 every-at-spec =

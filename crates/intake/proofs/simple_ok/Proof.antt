@@ -32,19 +32,19 @@ enum-told-4 : tie.Need-enum-told-4
 enum-told-4 c = search needs
 
 returns : tie.Need-returns
-returns c = ap not (c .has16 .ensures) ∙ (ap (ofLeast (λ r. not (has (c .before .before .before .before .before .before .before .args .complex) r))) (sym (c .before .before .before .c .given .1)) ∙ least-read (c .before .before .before .before .before .before .before .args .cs .now) (λ r. not (has (c .before .before .before .before .before .before .before .args .complex) r)) (c .before .before .before .before .before .before .before .args .e .0) _ (c .before .before .before .before .before .concept-at .ensures))
+returns c = ap not (c .has16 .ensures) ∙ (ap (ofLeast (λ r. not (has (c .before .before .before .before .before .before .before .args .complex) r))) (sym (c .before .before .before .c .given .1)) ∙ least-read (c .before .before .before .before .before .before .before .args .cs .now) (λ r. not (has (c .before .before .before .before .before .before .before .args .complex) r)) (c .before .before .before .before .before .before .before .args .e .0) _ (c .before .before .before .before .before .concept-at .ensures .0))
 
 returns-2 : tie.Need-returns-2
-returns-2 c = ap (ofLeast (λ r. not (has (c .before .before .before .before .args .complex) r))) (sym (c .enum-told .given .1)) ∙ least-read (c .before .before .before .before .args .cs .now) (λ r. not (has (c .before .before .before .before .args .complex) r)) (c .before .before .before .before .args .e .0) _ (c .before .before .concept-at .ensures)
+returns-2 c = ap (ofLeast (λ r. not (has (c .before .before .before .before .args .complex) r))) (sym (c .enum-told .given .1)) ∙ least-read (c .before .before .before .before .args .cs .now) (λ r. not (has (c .before .before .before .before .args .complex) r)) (c .before .before .before .before .args .e .0) _ (c .before .before .concept-at .ensures .0)
 
 returns-3 : tie.Need-returns-3
-returns-3 c = ap (ofLeast (λ r. not (has (c .before .before .before .before .args .complex) r))) (sym (c .enum-told2 .given .1)) ∙ least-read (c .before .before .before .before .args .cs .now) (λ r. not (has (c .before .before .before .before .args .complex) r)) (c .before .before .before .before .args .e .0) _ (c .before .before .concept-at .ensures)
+returns-3 c = ap (ofLeast (λ r. not (has (c .before .before .before .before .args .complex) r))) (sym (c .enum-told2 .given .1)) ∙ least-read (c .before .before .before .before .args .cs .now) (λ r. not (has (c .before .before .before .before .args .complex) r)) (c .before .before .before .before .args .e .0) _ (c .before .before .concept-at .ensures .0)
 
 returns-4 : tie.Need-returns-4
-returns-4 c = ap (ofLeast (λ r. not (has (c .before .before .before .before .args .complex) r))) (sym (c .enum-told3 .given .1)) ∙ least-read (c .before .before .before .before .args .cs .now) (λ r. not (has (c .before .before .before .before .args .complex) r)) (c .before .before .before .before .args .e .0) _ (c .before .before .concept-at .ensures)
+returns-4 c = ap (ofLeast (λ r. not (has (c .before .before .before .before .args .complex) r))) (sym (c .enum-told3 .given .1)) ∙ least-read (c .before .before .before .before .args .cs .now) (λ r. not (has (c .before .before .before .before .args .complex) r)) (c .before .before .before .before .args .e .0) _ (c .before .before .concept-at .ensures .0)
 
 returns-5 : tie.Need-returns-5
-returns-5 c = ap (ofLeast (λ r. not (has (c .before .before .before .before .args .complex) r))) (sym (c .enum-told4 .given .1)) ∙ least-read (c .before .before .before .before .args .cs .now) (λ r. not (has (c .before .before .before .before .args .complex) r)) (c .before .before .before .before .args .e .0) _ (c .before .before .concept-at .ensures)
+returns-5 c = ap (ofLeast (λ r. not (has (c .before .before .before .before .args .complex) r))) (sym (c .enum-told4 .given .1)) ∙ least-read (c .before .before .before .before .args .cs .now) (λ r. not (has (c .before .before .before .before .args .complex) r)) (c .before .before .before .before .args .e .0) _ (c .before .before .concept-at .ensures .0)
 
 pub simple-ok-spec : {M : Type 1} → statement M
 simple-ok-spec =

@@ -31,19 +31,19 @@ enum-told-4 : tie.Need-enum-told-4
 enum-told-4 c = search needs
 
 returns : tie.Need-returns
-returns c = c .parts-in .ensures ∙ (ap (ofBoth (partsIn (valueOf (c .before .before .before .before .before .before .args .x)) (c .before .before .before .before .before .before .args .e .0))) (sym (c .before .before .c .given .1)) ∙ both-read (c .before .before .before .before .before .before .args .cs .now) (partsIn (valueOf (c .before .before .before .before .before .before .args .x)) (c .before .before .before .before .before .before .args .e .0)) (c .before .before .before .before .before .before .args .e .0) _ (c .before .before .before .before .concept-at .ensures))
+returns c = c .parts-in .ensures ∙ (ap (ofBoth (partsIn (valueOf (c .before .before .before .before .before .before .args .x)) (c .before .before .before .before .before .before .args .e .0))) (sym (c .before .before .c .given .1)) ∙ both-read (c .before .before .before .before .before .before .args .cs .now) (partsIn (valueOf (c .before .before .before .before .before .before .args .x)) (c .before .before .before .before .before .before .args .e .0)) (c .before .before .before .before .before .before .args .e .0) _ (c .before .before .before .before .concept-at .ensures .0))
 
 returns-2 : tie.Need-returns-2
-returns-2 c = ap (ofBoth (partsIn (valueOf (c .before .before .before .before .args .x)) (c .before .before .before .before .args .e .0))) (sym (c .enum-told .given .1)) ∙ both-read (c .before .before .before .before .args .cs .now) (partsIn (valueOf (c .before .before .before .before .args .x)) (c .before .before .before .before .args .e .0)) (c .before .before .before .before .args .e .0) _ (c .before .before .concept-at .ensures)
+returns-2 c = ap (ofBoth (partsIn (valueOf (c .before .before .before .before .args .x)) (c .before .before .before .before .args .e .0))) (sym (c .enum-told .given .1)) ∙ both-read (c .before .before .before .before .args .cs .now) (partsIn (valueOf (c .before .before .before .before .args .x)) (c .before .before .before .before .args .e .0)) (c .before .before .before .before .args .e .0) _ (c .before .before .concept-at .ensures .0)
 
 returns-3 : tie.Need-returns-3
-returns-3 c = ap (ofBoth (partsIn (valueOf (c .before .before .before .before .args .x)) (c .before .before .before .before .args .e .0))) (sym (c .enum-told2 .given .1)) ∙ both-read (c .before .before .before .before .args .cs .now) (partsIn (valueOf (c .before .before .before .before .args .x)) (c .before .before .before .before .args .e .0)) (c .before .before .before .before .args .e .0) _ (c .before .before .concept-at .ensures)
+returns-3 c = ap (ofBoth (partsIn (valueOf (c .before .before .before .before .args .x)) (c .before .before .before .before .args .e .0))) (sym (c .enum-told2 .given .1)) ∙ both-read (c .before .before .before .before .args .cs .now) (partsIn (valueOf (c .before .before .before .before .args .x)) (c .before .before .before .before .args .e .0)) (c .before .before .before .before .args .e .0) _ (c .before .before .concept-at .ensures .0)
 
 returns-4 : tie.Need-returns-4
-returns-4 c = ap (ofBoth (partsIn (valueOf (c .before .before .before .before .args .x)) (c .before .before .before .before .args .e .0))) (sym (c .enum-told3 .given .1)) ∙ both-read (c .before .before .before .before .args .cs .now) (partsIn (valueOf (c .before .before .before .before .args .x)) (c .before .before .before .before .args .e .0)) (c .before .before .before .before .args .e .0) _ (c .before .before .concept-at .ensures)
+returns-4 c = ap (ofBoth (partsIn (valueOf (c .before .before .before .before .args .x)) (c .before .before .before .before .args .e .0))) (sym (c .enum-told3 .given .1)) ∙ both-read (c .before .before .before .before .args .cs .now) (partsIn (valueOf (c .before .before .before .before .args .x)) (c .before .before .before .before .args .e .0)) (c .before .before .before .before .args .e .0) _ (c .before .before .concept-at .ensures .0)
 
 returns-5 : tie.Need-returns-5
-returns-5 c = ap (ofBoth (partsIn (valueOf (c .before .before .before .before .args .x)) (c .before .before .before .before .args .e .0))) (sym (c .enum-told4 .given .1)) ∙ both-read (c .before .before .before .before .args .cs .now) (partsIn (valueOf (c .before .before .before .before .args .x)) (c .before .before .before .before .args .e .0)) (c .before .before .before .before .args .e .0) _ (c .before .before .concept-at .ensures)
+returns-5 c = ap (ofBoth (partsIn (valueOf (c .before .before .before .before .args .x)) (c .before .before .before .before .args .e .0))) (sym (c .enum-told4 .given .1)) ∙ both-read (c .before .before .before .before .args .cs .now) (partsIn (valueOf (c .before .before .before .before .args .x)) (c .before .before .before .before .args .e .0)) (c .before .before .before .before .args .e .0) _ (c .before .before .concept-at .ensures .0)
 
 pub both-at-spec : {M : Type 1} → statement M
 both-at-spec =

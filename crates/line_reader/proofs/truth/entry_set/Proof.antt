@@ -56,23 +56,23 @@ least-set-requires c κs = search needs
 
 returns : tie.Need-returns
 unfolding conceptSet
-returns c = let a = c .before .before .before .before .before .before .args in concept-read (a .cs .now) (a .s .now) (a .d) (a .t) (a .e .0) _ _ _ (c .before .enum-told .given .1) (c .before .before .before .concept-at .ensures) (c .full-set .ensures)
+returns c = let a = c .before .before .before .before .before .before .args in concept-read (a .cs .now) (a .s .now) (a .d) (a .t) (a .e .0) _ _ _ (c .before .enum-told .given .1) (c .before .before .before .concept-at .ensures .0) (c .full-set .ensures)
 
 returns-2 : tie.Need-returns-2
 unfolding conceptSet
-returns-2 c = let a = c .before .before .before .before .before .before .args in concept-read (a .cs .now) (a .s .now) (a .d) (a .t) (a .e .0) _ _ _ (c .before .enum-told2 .given .1) (c .before .before .before .concept-at .ensures) (c .named-set .ensures)
+returns-2 c = let a = c .before .before .before .before .before .before .args in concept-read (a .cs .now) (a .s .now) (a .d) (a .t) (a .e .0) _ _ _ (c .before .enum-told2 .given .1) (c .before .before .before .concept-at .ensures .0) (c .named-set .ensures)
 
 returns-3 : tie.Need-returns-3
 unfolding conceptSet
-returns-3 c = let a = c .before .before .before .before .before .before .before .before .args in concept-read (a .cs .now) (a .s .now) (a .d) (a .t) (a .e .0) _ _ _ (c .before .before .before .c .given .1) (c .before .before .before .before .before .concept-at .ensures) (rw (c .before .literal-set .ensures, c .literal-set2 .ensures) refl)
+returns-3 c = let a = c .before .before .before .before .before .before .before .before .args in concept-read (a .cs .now) (a .s .now) (a .d) (a .t) (a .e .0) _ _ _ (c .before .before .before .c .given .1) (c .before .before .before .before .before .concept-at .ensures .0) (rw (c .before .literal-set .ensures, c .literal-set2 .ensures) refl)
 
 returns-4 : tie.Need-returns-4
 unfolding conceptSet
-returns-4 c = let a = c .before .before .before .before .before .before .before .before .args in concept-read (a .cs .now) (a .s .now) (a .d) (a .t) (a .e .0) _ _ _ (c .before .before .before .c2 .given .1) (c .before .before .before .before .before .concept-at .ensures) (c .every-set .ensures ∙ rw (c .before .literal-set3 .ensures) refl)
+returns-4 c = let a = c .before .before .before .before .before .before .before .before .args in concept-read (a .cs .now) (a .s .now) (a .d) (a .t) (a .e .0) _ _ _ (c .before .before .before .c2 .given .1) (c .before .before .before .before .before .concept-at .ensures .0) (c .every-set .ensures ∙ rw (c .before .literal-set3 .ensures) refl)
 
 returns-5 : tie.Need-returns-5
 unfolding conceptSet
-returns-5 c = let a = c .before .before .before .before .before .before .before .before .before .args in concept-read (a .cs .now) (a .s .now) (a .d) (a .t) (a .e .0) _ _ _ (c .before .before .before .before .c3 .given .1) (c .before .before .before .before .before .before .concept-at .ensures) (c .least-set .ensures ∙ rw (c .before .literal-set4 .ensures) refl)
+returns-5 c = let a = c .before .before .before .before .before .before .before .before .before .args in concept-read (a .cs .now) (a .s .now) (a .d) (a .t) (a .e .0) _ _ _ (c .before .before .before .before .c3 .given .1) (c .before .before .before .before .before .before .concept-at .ensures .0) (c .least-set .ensures ∙ rw (c .before .literal-set4 .ensures) refl)
 
 pub entry-set-spec : {M : Type 1} → statement M
 entry-set-spec =
