@@ -5,7 +5,7 @@ use mathlib.Core.Bool.{Bool, true, false, cond, _&&_}
 use mathlib.Core.List.{List}
 use mathlib.Core.Option.{Option, none, some}
 use native.Mathlib.Omega.{arith}
-use borrow.Author.Tests.{le-leb, lt-leb}
+use borrow.Author.Tests.{le-leb, lt-leb, lt-ltb, le-ltb, eq-eqb, ne-eqb}
 use lib.Dec.{eqb, leb, ltb}
 use lib.ListN.{length}
 use native.Mathlib.Numerals.{add-one}
@@ -14,9 +14,8 @@ use Rattle.logic.specs.Tests.{so-leb}
 use Rattle.logic.specs.SetLaws.{single-word}
 use Rattle.counting.specs.Trees.{Tree, split}
 use Rattle.parts.specs.Numbers.{byteAt, num2}
-use Rattle.list_form.specs.ListForm.{Placed, nodeIn, byNode, leafIn, treeIn, andThen, given, treeAt, mostDepth, countingIn, sized, stepOf, stepIn}
+use Rattle.list_form.specs.ListForm.{Placed, nodeIn, treeIn, andThen, given, treeAt, mostDepth, countingIn, sized, stepOf, stepIn}
 use Rattle.refutation.specs.Records.{Step}
-use Rattle.list_form.specs.declared.Node.{Node}
 use Rattle.list_form.specs.declared.Node.the-variants.{Leaf, Split, Off}
 use Rattle.list_form.specs.declared.Place.{Place}
 use Rattle.list_form.specs.declared.Place.the-variants.{At, Nowhere}
@@ -88,63 +87,39 @@ module _ (ds : List ℕ) (limits at : ℕ) where
       let w = place-at (treeIn ds l (suc limits) (at + 4)) p (rw (z, add-one limits) at q) in
       (rw (z, add-one limits) at s) ∙ rw (← e, w .1, w .2) (second-end (treeIn ds l (suc limits) p) (λ x. split (byteAt ds (at + 1)) (num2 ds (at + 2)) (w .0 .tree) (x .tree)))
 
--- ---- trees end in the record
-node-inside : (ds : List ℕ) (limits at end : ℕ) → Leaf end ≡ nodeIn ds limits at → end ≤ length ds
+-- ---- laws for the reader of a node
+pub node-past : (ds : List ℕ) (limits at : ℕ) → length ds ≤ at → Off ≡ nodeIn ds limits at
 unfolding nodeIn
-node-inside ds limits at end e = go (ltb at (length ds) && eqb (byteAt ds at) 0) (leb (at + 1 + limits) (length ds)) refl (leb (at + 4) (length ds) && eqb (byteAt ds at) 1) e
+node-past ds limits at h = let z : length ds < at + 4 = omega arith in rw (le-ltb _ _ h, lt-leb _ _ z) refl
+
+module _ (ds : List ℕ) (limits at tag : ℕ) (p : tag ≡ byteAt ds at) (h : at < length ds) where
+  pub node-leaf : tag ≡ 0 → at + 1 + limits ≤ length ds → Leaf (at + 1 + limits) ≡ nodeIn ds limits at
+  unfolding nodeIn
+  node-leaf e k = rw (← p, lt-ltb _ _ h, eq-eqb _ _ e, le-leb _ _ k) refl
+
+  pub node-cut : tag ≡ 0 → length ds < at + 1 + limits → Off ≡ nodeIn ds limits at
+  unfolding nodeIn
+  node-cut e k = rw (← p, lt-ltb _ _ h, eq-eqb _ _ e, lt-leb _ _ k) refl
+
+  pub node-split : (tag ≡ 0 → ⊥) → (leb (at + 4) (length ds) && eqb tag 1) ≡ true → Split ≡ nodeIn ds limits at
+  unfolding nodeIn
+  node-split e q = rw (← p, lt-ltb _ _ h, ne-eqb _ _ e, q) refl
+
+  pub node-off : (tag ≡ 0 → ⊥) → (leb (at + 4) (length ds) && eqb tag 1) ≡ false → Off ≡ nodeIn ds limits at
+  unfolding nodeIn
+  node-off e q = rw (← p, lt-ltb _ _ h, ne-eqb _ _ e, q) refl
+
+-- a leaf has its tag and its multipliers
+pub leaf-room : (ds : List ℕ) (limits at end : ℕ) → Leaf end ≡ nodeIn ds limits at → (end ≡ at + 1 + limits) × (end ≤ length ds)
+unfolding nodeIn
+leaf-room ds limits at end e = go (ltb at (length ds) && eqb (byteAt ds at) 0) (leb (at + 1 + limits) (length ds)) refl (leb (at + 4) (length ds) && eqb (byteAt ds at) 1) e
   where
-    go : (a b : Bool) → leb (at + 1 + limits) (length ds) ≡ b → (c : Bool) → Leaf end ≡ cond a (cond b (Leaf (at + 1 + limits)) Off) (cond c Split Off) → end ≤ length ds
-    go true true h c q = let z : end ≡ at + 1 + limits = cc in omega (arith, so-leb (at + 1 + limits) (length ds) h)
+    go : (a b : Bool) → leb (at + 1 + limits) (length ds) ≡ b → (c : Bool) → Leaf end ≡ cond a (cond b (Leaf (at + 1 + limits)) Off) (cond c Split Off)
+        → (end ≡ at + 1 + limits) × (end ≤ length ds)
+    go true true h c q = let z : end ≡ at + 1 + limits = cc in (z, omega (arith, so-leb (at + 1 + limits) (length ds) h))
     go true false h c q = absurd (let z : _≡_ {A = ℕ} 0 1 = cc in omega arith)
     go false b h true q = absurd (let z : _≡_ {A = ℕ} 0 1 = cc in omega arith)
     go false b h false q = absurd (let z : _≡_ {A = ℕ} 0 1 = cc in omega arith)
-
-pub tree-ends : (ds : List ℕ) (left limits at p : ℕ) → At p ≡ placeOf (treeIn ds left limits at) → p ≤ length ds
-unfolding treeIn
-tree-ends ds zero limits at p e = go (nodeIn ds limits at) refl e
-  where
-    go : (x : Node) → x ≡ nodeIn ds limits at → At p ≡ placeOf (byNode (leafIn ds limits at) none x) → p ≤ length ds
-    go (Leaf end) h q = let z : p ≡ end = cc in omega (arith, node-inside ds limits at end h)
-    go Split h q = absurd (let z : _≡_ {A = ℕ} 0 1 = cc in omega arith)
-    go Off h q = absurd (let z : _≡_ {A = ℕ} 0 1 = cc in omega arith)
-tree-ends ds (suc left) limits at p e = go (tree-ends ds left (suc limits)) (nodeIn ds limits at) refl e
-  where
-    both : Option Placed → (Placed → Option Placed) → Option Placed
-    both o f = andThen o (λ l. andThen (f l) (λ r. some (record { tree = split (byteAt ds (at + 1)) (num2 ds (at + 2)) (l .tree) (r .tree); end = r .end })))
-
-    second : ((at p : ℕ) → At p ≡ placeOf (treeIn ds left (suc limits) at) → p ≤ length ds) → (l : Placed) (o : Option Placed) → o ≡ treeIn ds left (suc limits) (l .end)
-        → At p ≡ placeOf (andThen o (λ r. some (record { tree = split (byteAt ds (at + 1)) (num2 ds (at + 2)) (l .tree) (r .tree); end = r .end }))) → p ≤ length ds
-    second ih l none h q = absurd (let z : _≡_ {A = ℕ} 0 1 = cc in omega arith)
-    second ih l (some r) h q = let z : p ≡ r .end = cc in ih (l .end) p (rw (← h, z) refl)
-
-    first : ((at p : ℕ) → At p ≡ placeOf (treeIn ds left (suc limits) at) → p ≤ length ds) → (o : Option Placed)
-        → At p ≡ placeOf (both o (λ l. treeIn ds left (suc limits) (l .end))) → p ≤ length ds
-    first ih none q = absurd (let z : _≡_ {A = ℕ} 0 1 = cc in omega arith)
-    first ih (some l) q = second ih l (treeIn ds left (suc limits) (l .end)) refl q
-
-    go : ((at p : ℕ) → At p ≡ placeOf (treeIn ds left (suc limits) at) → p ≤ length ds) → (x : Node) → x ≡ nodeIn ds limits at
-        → At p ≡ placeOf (byNode (leafIn ds limits at) (both (treeIn ds left (suc limits) (at + 4)) (λ l. treeIn ds left (suc limits) (l .end))) x) → p ≤ length ds
-    go ih (Leaf end) h q = let z : p ≡ end = cc in omega (arith, node-inside ds limits at end h)
-    go ih Split h q = first ih (treeIn ds left (suc limits) (at + 4)) q
-    go ih Off h q = absurd (let z : _≡_ {A = ℕ} 0 1 = cc in omega arith)
-
--- ---- laws for the reader of a node
-module _ (ds : List ℕ) (limits at tag : ℕ) (p : tag ≡ byteAt ds at) where
-  pub node-leaf : (ltb at (length ds) && eqb tag 0) ≡ true → at + 1 + limits ≤ length ds → Leaf (at + 1 + limits) ≡ nodeIn ds limits at
-  unfolding nodeIn
-  node-leaf e k = rw (← p, e, le-leb _ _ k) refl
-
-  pub node-cut : (ltb at (length ds) && eqb tag 0) ≡ true → length ds < at + 1 + limits → Off ≡ nodeIn ds limits at
-  unfolding nodeIn
-  node-cut e k = rw (← p, e, lt-leb _ _ k) refl
-
-  pub node-split : (ltb at (length ds) && eqb tag 0) ≡ false → (leb (at + 4) (length ds) && eqb tag 1) ≡ true → Split ≡ nodeIn ds limits at
-  unfolding nodeIn
-  node-split e q = rw (← p, e, q) refl
-
-  pub node-off : (ltb at (length ds) && eqb tag 0) ≡ false → (leb (at + 4) (length ds) && eqb tag 1) ≡ false → Off ≡ nodeIn ds limits at
-  unfolding nodeIn
-  node-off e q = rw (← p, e, q) refl
 
 -- a split has its four bytes
 pub split-room : (ds : List ℕ) (limits at : ℕ) → Split ≡ nodeIn ds limits at → at + 4 ≤ length ds

@@ -3,32 +3,32 @@ ghost use mathlib.Core.Path.{_≡_};
 ghost use mathlib.Core.Bool.{_&&_};
 ghost use Prim.Native.Nat.{_+_, _≤_, _<_, _^_};
 ghost use lib.Dec.{eqb};
-ghost use lib.ListN.{length};
 ghost use Rattle.list_form.specs.ListForm.{nodeIn, treeIn, treeAt, countingIn, stepIn};
 ghost use Rattle.list_form.specs.FormSteps.{placeOf, formed};
 use parts::byte;
 
 // What stands at a place of a tree: a leaf with the place where it ends, a split, or neither.
-enum Node {
+pub enum Node {
     Leaf(usize),
     Split,
     Off,
 }
 
 // Where a tree ends, if it has its form.
-enum Place {
+pub enum Place {
     At(usize),
     Nowhere,
 }
 
 // The node at `at`; a leaf has a multiplier for each of `limits` bounds.
-fn read_node(ds: &[u8], limits: u8, at: usize) -> Node
-    requires { ⌜ at ≤ length (now ds) ⌝ }
+pub fn read_node(ds: &[u8], limits: u8, at: usize) -> Node
     ensures { λ r. ⌜ r ≡ nodeIn (now (ds .entry)) limits at ⌝ }
 {
+    if ds.len() <= at {
+        return Node::Off;
+    }
     let tag = byte(ds, at);
-    let leaf = (at < ds.len()) & (tag == 0);
-    if leaf {
+    if tag == 0 {
         let end = at + 1 + (limits as usize);
         if ds.len() < end {
             return Node::Off;
@@ -44,7 +44,7 @@ fn read_node(ds: &[u8], limits: u8, at: usize) -> Node
 
 // Where the tree at `at` ends, with at most `left` splits above a leaf, under `limits` bounds.
 fn tree_end(ds: &[u8], left: u8, limits: u8, at: usize) -> Place
-    requires { ⌜ (left + limits ≤ 14) × (at ≤ length (now ds)) ⌝ }
+    requires { ⌜ left + limits ≤ 14 ⌝ }
     ensures { λ r. ⌜ r ≡ placeOf (treeIn (now (ds .entry)) left limits at) ⌝ }
 {
     let node = read_node(ds, limits, at);

@@ -1,7 +1,7 @@
 use mathlib.Core.Path.{_∙_, sym}
 use native.Mathlib.Omega.{arith}
 use borrow.Author.Needs.{needs}
-use Rattle.list_form.specs.FormSteps.{tree-off, tree-leaf, tree-deep, tree-first, tree-second, tree-ends, split-room}
+use Rattle.list_form.specs.FormSteps.{tree-off, tree-leaf, tree-deep, tree-first, tree-second, split-room}
 use Prim.Native.Nat.{ℕ, _<_}
 use borrow.Fn.Kinds.{In}
 use borrow.Fn.PlainCycle.{Measures, is, falls, and}
@@ -28,7 +28,7 @@ tree-end-read-node-requires : (t : ℕ) → tree-end-lts.Need-read-node-requires
   tree-end-below t,
   tree-end.Post,
 ) (tree-end-at t) tree-end.Post
-tree-end-read-node-requires t c κs = omega arith
+tree-end-read-node-requires t c κs = search needs
 
 tree-end-enum-told : (t : ℕ) → tree-end-lts.Need-enum-told (
   read-node-reads.Asked,
@@ -92,7 +92,7 @@ tree-end-tree-end-requires : (t : ℕ) → tree-end-lts.Need-tree-end-requires (
   tree-end-below t,
   tree-end.Post,
 ) (tree-end-at t) tree-end.Post
-tree-end-tree-end-requires t c κs = let p = c .before .before .before .before .before .args in let r = split-room (p .ds .now) (p .limits) (p .at) (sym (c .before .enum-told2 .given .1) ∙ c .before .before .before .read-node .ensures) in (omega arith, (omega arith, omega arith))
+tree-end-tree-end-requires t c κs = (omega arith, omega arith)
 
 tree-end-enum-known-first : (t : ℕ) → tree-end-lts.Need-enum-known-first (
   read-node-reads.Asked,
@@ -140,7 +140,7 @@ tree-end-tree-end-requires-2 : (t : ℕ) → tree-end-lts.Need-tree-end-requires
   tree-end-below t,
   tree-end.Post,
 ) (tree-end-at t) tree-end.Post
-tree-end-tree-end-requires-2 t c κs = let p = c .before .before .before .before .before .before .before .before .before .args in let r = tree-ends (p .ds .now) _ _ _ (c .before .first .given .0 .0) (sym (c .before .first .given .1) ∙ c .before .before .before .tree-end .ensures) in (omega arith, (omega arith, r))
+tree-end-tree-end-requires-2 t c κs = (omega arith, omega arith)
 
 tree-end-returns-3 : (t : ℕ) → tree-end-lts.Need-returns-3 (
   read-node-reads.Asked,

@@ -1,0 +1,118 @@
+use Prim.Native.Nat.{ℕ, _-_, _^_, _≤_}
+use mathlib.Core.Path.{_≡_, _∙_, sym, ap}
+use mathlib.Core.Bool.{Bool, true}
+use native.Mathlib.Omega.{arith}
+use lib.Pow.{pow-pos}
+use borrow.Author.Needs.{needs}
+use borrow.Author.Tests.{not-true, not-false}
+use Rattle.logic.specs.Bounded.{allBelow, all-stop, all-more, all-done}
+use Rattle.labels.specs.Labels.{valueOf}
+use Rattle.rows.specs.HeldRows.{rowsHeld}
+use Rattle.parts.specs.Numbers.{upTo}
+use Rattle.list_cells.specs.CellSteps.{entryIn, cellsOn, cellsCode}
+use Rattle.list_cells.specs.CellLaws.{no-cell, cell-at, cells-told}
+use Rattle.list_cells.proofs.cells_ok.Statement.{statement}
+use Rattle.list_cells.proofs.cells_ok.Tie as tie
+use Rattle.list_cells.proofs.cells_ok.Reads as reads
+use Rattle.list_cells.proofs.cells_ok.Lts as lts
+use Rattle.list_cells.proofs.carried_entries.Reads as carried-entries-reads
+use Rattle.list_cells.proofs.cell_ok.Reads as cell-ok-reads
+use Rattle.parts.proofs.byte.Reads as byte-reads
+use Rattle.parts.proofs.up_to.Reads as up-to-reads
+use Rattle.rows.proofs.cell_count.Reads as cell-count-reads
+
+abbrev Inv-loop : tie.InvT-loop
+Inv-loop rs cs a s x rows k ds n end on c₀ c = (1 ≤ c) × (c ≤ end) × (end ≤ 64) × (n ≤ 6) × (end ≡ 2 ^ n) × (allBelow c (cellsOn cs a s (valueOf x) (entryIn (valueOf on)) (rowsHeld rows n) ds n) ≡ true)
+
+abbrev μ-loop : tie.MeasureT-loop
+μ-loop rs cs a s x rows k ds n end on c₀ c = end - c
+
+-- the test of the cells with what is read before the loop
+abbrev test : tie.After-carried-entries Inv-loop μ-loop → ℕ → Bool
+test c = let g = c .before .before .before .before .before .before .before .args in let n = c .before .before .up-to .result in
+    cellsOn (g .cs .now) (g .a) (g .s .now) (valueOf (g .x)) (entryIn (valueOf (c .carried-entries .result))) (rowsHeld (g .rows) n) (g .ds .now) n
+
+told : (c : tie.After-carried-entries Inv-loop μ-loop) (t : Bool) → allBelow (2 ^ c .before .before .up-to .result) (test c) ≡ t
+    → let g = c .before .before .before .before .before .before .before .args in
+    t ≡ cellsCode (g .rs .now) (g .cs .now) (g .a) (g .s .now) (valueOf (g .x)) (rowsHeld (g .rows) (upTo 6 (g .k))) (g .ds .now) (upTo 6 (g .k))
+told c t h = let g = c .before .before .before .before .before .before .before .args in
+    cells-told (g .rs .now) (g .cs .now) (g .a) (g .s .now) (valueOf (g .x)) (entryIn (valueOf (c .carried-entries .result))) (g .rows) (g .ds .now) _ _ t (c .before .before .up-to .ensures .0)
+    (c .carried-entries .ensures) h
+
+here : (c : tie.After-cell-ok Inv-loop μ-loop) → c .cell-ok .result ≡ test (c .before .before .before .before) (c .before .before .before .loop .c)
+here c = let e = c .before .before .before .before in let g = e .before .before .before .before .before .before .before .args in
+    cell-at (g .cs .now) (g .a) (g .s .now) (valueOf (g .x)) (entryIn (valueOf (e .carried-entries .result))) (rowsHeld (g .rows) (e .before .before .up-to .result)) (g .ds .now) (e .before .before .up-to .result)
+    (c .before .before .before .loop .c) _ _ (omega arith) (c .before .byte .ensures) (c .cell-ok .ensures)
+
+up-to-requires : tie.Need-up-to-requires Inv-loop μ-loop
+up-to-requires c κs = search needs
+
+cell-count-requires : tie.Need-cell-count-requires Inv-loop μ-loop
+cell-count-requires c κs = search needs
+
+carried-entries-requires : tie.Need-carried-entries-requires Inv-loop μ-loop
+carried-entries-requires c κs = search needs
+
+loop-holds : tie.Need-loop-holds Inv-loop μ-loop
+loop-holds c = let g = c .before .before .before .before .before .before .before .args in let e = c .before .cell-count .ensures .0 ∙ ap (λ m. 2 ^ m) (sym (c .before .before .up-to .ensures .0)) in let p = pow-pos (c .before .before .up-to .result) in
+    (omega arith, omega (arith, e, p), c .before .cell-count .ensures .1, c .before .before .up-to .ensures .1, e, no-cell (g .cs .now) (g .a) (g .s .now) (valueOf (g .x)) _ _ (g .ds .now) (c .before .before .up-to .result))
+
+cast-loop : tie.Need-cast-loop Inv-loop μ-loop
+cast-loop c = search needs
+
+cast-byte : tie.Need-cast-byte Inv-loop μ-loop
+cast-byte c = search needs
+
+add-byte : tie.Need-add-byte Inv-loop μ-loop
+add-byte c = omega arith
+
+cast-byte-2 : tie.Need-cast-byte-2 Inv-loop μ-loop
+cast-byte-2 c = search needs
+
+add-byte-2 : tie.Need-add-byte-2 Inv-loop μ-loop
+add-byte-2 c = omega arith
+
+byte-requires : tie.Need-byte-requires Inv-loop μ-loop
+byte-requires c κs = search needs
+
+cell-ok-requires : tie.Need-cell-ok-requires Inv-loop μ-loop
+cell-ok-requires c κs = search needs
+
+returns : tie.Need-returns Inv-loop μ-loop
+returns c = let l = c .before .before .before .before in told (l .before) _ (all-stop (test (l .before)) (l .loop .c) _ (omega arith) (sym (here (c .before)) ∙ not-true _ (c .if1 .taken)))
+
+add-c : tie.Need-add-c Inv-loop μ-loop
+add-c c = omega arith
+
+loop-less : tie.Need-loop-less Inv-loop μ-loop
+loop-less c = omega arith
+
+loop-again : tie.Need-loop-again Inv-loop μ-loop
+loop-again c = let l = c .before .before .before .before in let v = l .loop .inv in
+    (omega arith, omega arith, v .2, v .3, v .4, all-more (test (l .before)) (l .loop .c) (v .5) (sym (here (c .before)) ∙ not-false _ (c .if1 .left)))
+
+returns-2 : tie.Need-returns-2 Inv-loop μ-loop
+returns-2 c = let v = c .before .loop .inv in told (c .before .before) _ (all-done (test (c .before .before)) (c .before .loop .c) _ (omega arith) (omega arith) (v .5))
+
+pub cells-ok-spec : {M : Type 1} → statement M
+cells-ok-spec =
+    tie.close
+    (tie.spec
+    Inv-loop
+    μ-loop
+    up-to-requires
+    cell-count-requires
+    carried-entries-requires
+    loop-holds
+    cast-loop
+    cast-byte
+    add-byte
+    cast-byte-2
+    add-byte-2
+    byte-requires
+    cell-ok-requires
+    returns
+    add-c
+    loop-less
+    loop-again
+    returns-2)

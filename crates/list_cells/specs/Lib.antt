@@ -1,0 +1,3 @@
+pub mod CellSteps
+pub mod CellLaws
+pub mod CellJoin

@@ -1,0 +1,174 @@
+// Tests 9, 10 and 16 to 20 of a list.
+ghost use mathlib.Core.Path.{_≡_};
+ghost use mathlib.Core.List.{[]};
+ghost use mathlib.Core.Option.{none};
+ghost use Prim.Native.Nat.{_≤_};
+ghost use Rattle.logic.specs.Refusals.{refuse, refuseFrom};
+ghost use Rattle.description.specs.Literals.{literal};
+ghost use Rattle.tables.specs.Tables.{describe};
+ghost use Rattle.labels.specs.Labels.{valueOf};
+ghost use Rattle.refutation.specs.Cells.{rowsOf};
+ghost use Rattle.answers.specs.Answers.{refusalOf};
+ghost use Rattle.list_form.specs.ListForm.{bytesAt};
+ghost use Rattle.rows.specs.HeldRows.{rowsHeld};
+ghost use Rattle.list_check.specs.CheckSteps.{formCode, formOf, countCode, stepCode, recordCode, endCode, recordsCode, listCode};
+use answers::Tested;
+use cites::within_two;
+use evidence::Head;
+use evidence::read_head;
+use evidence::record_edges;
+use evidence::record_label;
+use labels::Label;
+use list_cells::cells_ok;
+use list_form::step_form;
+use list_steps::test_step;
+use list_tree::tree_closes;
+use parts::byte;
+use rows::Row;
+use rows::rows_of;
+
+// Test 10 of record `i`.
+fn form_ok(s: &[u8], i: u8) -> bool
+    ensures { λ r. ⌜ r ≡ formCode (now (s .entry)) i ⌝ }
+{
+    step_form(record_edges(s, i))
+}
+
+// Test 10 of the `n` records.
+fn test_forms(s: &[u8], n: u8) -> Tested
+    ensures { λ r. ⌜ refusalOf r ≡ refuseFrom (formOf (now (s .entry))) n 0 none ⌝ }
+{
+    let mut i: u8 = 0;
+    while i < n {
+        if !form_ok(s, i) {
+            return Tested::Refused(10, i);
+        }
+        i += 1;
+    }
+    Tested::Fine
+}
+
+// Tests 18 and 19 of the counting step `ds` of record `i` with the label `x`, whose `k` rows are `rows`.
+fn test_held(
+    rs: &[u8],
+    cs: &[u8],
+    a: [u16; 16],
+    s: &[u8],
+    i: u8,
+    x: Label,
+    ds: &[u8],
+    k: u8,
+    rows: [Row; 6],
+) -> Tested
+    requires { ⌜ (k ≤ 6) × (rowsHeld rows k ≡ rowsOf (describe [] (now cs) []) (bytesAt literal (now ds) 2 k)) ⌝ }
+    ensures { λ r. ⌜ refusalOf r ≡ refuse i (countCode (now (rs .entry)) (now (cs .entry)) a (now (s .entry)) (valueOf x) (now (ds .entry)) k) none ⌝ }
+{
+    if !cells_ok(rs, cs, a, s, x, rows, k, ds) {
+        return Tested::Refused(18, i);
+    }
+    if !tree_closes(rows, k, ds) {
+        return Tested::Refused(19, i);
+    }
+    Tested::Fine
+}
+
+// The same with the rows read.
+fn test_count(
+    rs: &[u8],
+    cs: &[u8],
+    a: [u16; 16],
+    s: &[u8],
+    i: u8,
+    x: Label,
+    ds: &[u8],
+    k: u8,
+) -> Tested
+    requires { ⌜ k ≤ 6 ⌝ }
+    ensures { λ r. ⌜ refusalOf r ≡ refuse i (countCode (now (rs .entry)) (now (cs .entry)) a (now (s .entry)) (valueOf x) (now (ds .entry)) k) none ⌝ }
+{
+    test_held(rs, cs, a, s, i, x, ds, k, rows_of(cs, ds, k))
+}
+
+// Tests 10 and 16 to 19 of record `i` with the label `x` and the step `ds`.
+fn test_labelled(
+    rs: &[u8],
+    cs: &[u8],
+    qs: &[u8],
+    a: [u16; 16],
+    s: &[u8],
+    i: u8,
+    x: Label,
+    ds: &[u8],
+) -> Tested
+    ensures { λ r. ⌜ refusalOf r ≡ refuse i (stepCode (now (rs .entry)) (now (cs .entry)) (now (qs .entry)) a (now (s .entry)) i (valueOf x) (now (ds .entry))) none ⌝ }
+{
+    let t = test_step(cs, qs, s, i, x, ds);
+    let Tested::Fine = t else {
+        return t;
+    };
+    if byte(ds, 0) == 6 {
+        return test_count(rs, cs, a, s, i, x, ds, byte(ds, 1));
+    }
+    Tested::Fine
+}
+
+// Tests 10 and 16 to 19 of record `i`.
+fn test_record(rs: &[u8], cs: &[u8], qs: &[u8], a: [u16; 16], s: &[u8], i: u8) -> Tested
+    ensures { λ r. ⌜ refusalOf r ≡ refuse i (recordCode (now (rs .entry)) (now (cs .entry)) (now (qs .entry)) a (now (s .entry)) i) none ⌝ }
+{
+    test_labelled(rs, cs, qs, a, s, i, record_label(s, i), record_edges(s, i))
+}
+
+// Tests 10 and 16 to 19 of the `n` records, rising.
+fn test_records(rs: &[u8], cs: &[u8], qs: &[u8], a: [u16; 16], s: &[u8], n: u8) -> Tested
+    ensures { λ r. ⌜ refusalOf r ≡ refuseFrom (recordCode (now (rs .entry)) (now (cs .entry)) (now (qs .entry)) a (now (s .entry))) n 0 none ⌝ }
+{
+    let mut i: u8 = 0;
+    while i < n {
+        let t = test_record(rs, cs, qs, a, s, i);
+        let Tested::Fine = t else {
+            return t;
+        };
+        i += 1;
+    }
+    Tested::Fine
+}
+
+// Test 20: the label of record `last` holds nothing but literal 0 and the root.
+fn test_end(qs: &[u8], s: &[u8], last: u8) -> Tested
+    ensures { λ r. ⌜ refusalOf r ≡ refuse last (endCode (now (qs .entry)) (now (s .entry)) last) none ⌝ }
+{
+    let nothing = Label { high: 0, low: 0 };
+    if !within_two(s, last, nothing, 0, byte(qs, 0)) {
+        return Tested::Refused(20, last);
+    }
+    Tested::Fine
+}
+
+// Tests 10 and 16 to 20 of the `n` records.
+fn test_all(rs: &[u8], cs: &[u8], qs: &[u8], a: [u16; 16], s: &[u8], n: u8) -> Tested
+    requires { ⌜ 1 ≤ n ⌝ }
+    ensures { λ r. ⌜ refusalOf r ≡ recordsCode (now (rs .entry)) (now (cs .entry)) (now (qs .entry)) a (now (s .entry)) n ⌝ }
+{
+    let t = test_forms(s, n);
+    let Tested::Fine = t else {
+        return t;
+    };
+    let u = test_records(rs, cs, qs, a, s, n);
+    let Tested::Fine = u else {
+        return u;
+    };
+    test_end(qs, s, n - 1)
+}
+
+// Tests 9, 10 and 16 to 20 of the list `s`, if `a` holds the ancestors of each role.
+pub fn test_list(rs: &[u8], cs: &[u8], qs: &[u8], a: [u16; 16], s: &[u8]) -> Tested
+    ensures { λ r. ⌜ refusalOf r ≡ listCode (now (rs .entry)) (now (cs .entry)) (now (qs .entry)) a (now (s .entry)) ⌝ }
+{
+    let head = read_head(s);
+    match head {
+        Head::RefutationOf(n) => test_all(rs, cs, qs, a, s, n),
+        Head::GraphOf(_) => Tested::Refused(9, 0),
+        Head::Off => Tested::Refused(9, 0),
+    }
+}

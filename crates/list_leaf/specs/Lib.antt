@@ -1,0 +1,4 @@
+pub mod Sums
+pub mod Gap
+pub mod Leaf
+pub mod LeafLaws

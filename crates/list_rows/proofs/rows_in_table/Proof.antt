@@ -1,0 +1,54 @@
+use Prim.Native.Nat.{_-_, _≤_, _^_}
+use mathlib.Core.Path.{_≡_, _∙_, sym}
+use mathlib.Core.Bool.{true}
+use native.Mathlib.Omega.{arith}
+use borrow.Author.Needs.{needs}
+use borrow.Author.Tests.{not-true, not-false}
+use Rattle.logic.specs.Bounded.{allBelow, all-none, all-stop, all-more, all-done}
+use Rattle.list_rows.specs.RowSteps.{inTable}
+use Rattle.list_rows.proofs.rows_in_table.Statement.{statement}
+use Rattle.list_rows.proofs.rows_in_table.Tie as tie
+use Rattle.list_rows.proofs.rows_in_table.Reads as reads
+use Rattle.list_rows.proofs.rows_in_table.Lts as lts
+use Rattle.list_rows.proofs.row_in_table.Reads as row-in-table-reads
+
+abbrev Inv-loop : tie.InvT-loop
+Inv-loop cs ds k j₀ j = (j ≤ k) × (allBelow j (inTable cs ds) ≡ true)
+
+abbrev μ-loop : tie.MeasureT-loop
+μ-loop cs ds k j₀ j = k - j
+
+loop-holds : tie.Need-loop-holds Inv-loop μ-loop
+loop-holds c = (omega arith, all-none _)
+
+row-in-table-requires : tie.Need-row-in-table-requires Inv-loop μ-loop
+row-in-table-requires c κs = search needs
+
+returns : tie.Need-returns Inv-loop μ-loop
+returns c = sym (all-stop _ (c .before .before .before .loop .j) _ (omega arith) (sym (c .before .row-in-table .ensures) ∙ not-true _ (c .if1 .taken)))
+
+add-j : tie.Need-add-j Inv-loop μ-loop
+add-j c = omega arith
+
+loop-less : tie.Need-loop-less Inv-loop μ-loop
+loop-less c = omega arith
+
+loop-again : tie.Need-loop-again Inv-loop μ-loop
+loop-again c = (omega arith, all-more _ (c .before .before .before .loop .j) (c .before .before .before .loop .inv .1) (sym (c .before .row-in-table .ensures) ∙ not-false _ (c .if1 .left)))
+
+returns-2 : tie.Need-returns-2 Inv-loop μ-loop
+returns-2 c = sym (all-done _ (c .before .loop .j) _ (omega arith) (omega arith) (c .before .loop .inv .1))
+
+pub rows-in-table-spec : {M : Type 1} → statement M
+rows-in-table-spec =
+    tie.close
+    (tie.spec
+    Inv-loop
+    μ-loop
+    loop-holds
+    row-in-table-requires
+    returns
+    add-j
+    loop-less
+    loop-again
+    returns-2)

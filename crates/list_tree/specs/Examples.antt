@@ -1,0 +1,37 @@
+-- Worked examples of 19 on bytes, on both sides: at most 1 and at least 3, with cells 1 and 2 shown empty and cell 3 open (P6 and P7 of 01).
+use Prim.Native.Nat.{ℕ}
+use mathlib.Core.Path.{_≡_, refl}
+use mathlib.Core.Bool.{Bool, true, false}
+use mathlib.Core.List.{List, [], _∷_}
+use Rattle.logic.specs.Bounded.{allBelow}
+use Rattle.logic.specs.Lists.{tabulate}
+use Rattle.logic.specs.Sets.{has}
+use Rattle.counting.specs.Trees.{lower, upper, leafTest, treeTest}
+use Rattle.list_form.specs.ListForm.{nodeIn, treeIn}
+use Rattle.list_tree.specs.ListTree.{closingIn}
+
+-- the step with this tree: its byte, the number of rows, their literals, the cells
+abbrev passes : List ℕ → Bool
+passes tree = closingIn (record { side = upper; value = 1 } ∷ record { side = lower; value = 3 } ∷ []) (6 ∷ 2 ∷ 3 ∷ 4 ∷ 0 ∷ 0 ∷ 255 ∷ tree) 2
+
+-- P6; P7; a gap of zero; a cell out of balance; a multiplier cut off
+leaves : (passes (0 ∷ 1 ∷ 1 ∷ []) ≡ true) × (passes (0 ∷ 1 ∷ 0 ∷ []) ≡ false) × (passes (0 ∷ 3 ∷ 1 ∷ []) ≡ false) × (passes (0 ∷ 1 ∷ 2 ∷ []) ≡ false)
+    × (passes (0 ∷ 1 ∷ []) ≡ false)
+unfolding closingIn treeIn nodeIn treeTest leafTest allBelow tabulate has
+leaves = (refl, refl, refl, refl, refl)
+
+-- a split whose halves close by the rows alone: at 1,000 and 1,001; of a cell shown empty, of cell 0, of a cell past the last
+abbrev splitAt : ℕ → ℕ → ℕ → Bool
+splitAt c high low = passes (1 ∷ c ∷ high ∷ low ∷ 0 ∷ 1 ∷ 1 ∷ 0 ∷ 0 ∷ 1 ∷ 1 ∷ 0 ∷ [])
+
+splits : (splitAt 3 3 232 ≡ true) × (splitAt 3 3 233 ≡ false) × (splitAt 2 0 1 ≡ false) × (splitAt 0 0 1 ≡ false) × (splitAt 4 0 1 ≡ false)
+unfolding closingIn treeIn nodeIn treeTest leafTest allBelow tabulate has
+splits = (refl, refl, refl, refl, refl)
+
+-- a split whose halves close against one row each: at most v against at least 3, at least v + 1 against at most 1
+abbrev byHalves : ℕ → Bool
+byHalves v = passes (1 ∷ 3 ∷ 0 ∷ v ∷ 0 ∷ 0 ∷ 1 ∷ 1 ∷ 0 ∷ 1 ∷ 0 ∷ 1 ∷ [])
+
+halves : (byHalves 0 ≡ false) × (byHalves 1 ≡ true) × (byHalves 2 ≡ true) × (byHalves 3 ≡ false)
+unfolding closingIn treeIn nodeIn treeTest leafTest allBelow tabulate has
+halves = (refl, refl, refl, refl)

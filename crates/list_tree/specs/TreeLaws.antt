@@ -1,0 +1,210 @@
+-- Laws of the walk: a tree closes under its limits exactly if the walk over its bytes ends.
+use Prim.Native.Nat.{ℕ, zero, suc, _+_, _-_, _^_, _≤_}
+use mathlib.Core.Path.{_≡_, refl, sym, _∙_, ap}
+use mathlib.Core.Bool.{Bool, true, false, cond, _&&_}
+use mathlib.Core.List.{List, [], _∷_, _++_}
+use mathlib.Core.Option.{Option, none, some}
+use native.Mathlib.Omega.{arith}
+use native.Mathlib.Numerals.{add-one}
+use borrow.Author.Tests.{le-leb}
+use lib.Dec.{leb, ltb}
+use Rattle.logic.specs.Tests.{and-r, so-leb}
+use Rattle.parts.specs.Numbers.{byteAt, num2}
+use Rattle.counting.specs.Trees as Counting
+use Rattle.counting.specs.Trees.{split, live, leafTest, treeTest, atMost, moreThan}
+use Rattle.list_form.specs.ListForm.{Placed, bytesAt, nodeIn, treeIn, andThen, given}
+use Rattle.list_form.specs.declared.Node.{Node}
+use Rattle.list_form.specs.declared.Node.the-variants.{Leaf, Split, Off}
+use Rattle.list_form.specs.declared.Place.{Place}
+use Rattle.list_form.specs.declared.Place.the-variants.{At, Nowhere}
+use Rattle.list_tree.specs.ListTree.{valueFits}
+use Rattle.list_tree.specs.TreeSteps.{splitTest, fit, fitNode, closedIn, endOf}
+
+-- ---- what an end says
+end-none : (o : Option ℕ) → Nowhere ≡ endOf o → o ≡ none
+end-none none e = refl
+end-none (some p) e = absurd (let z : _≡_ {A = ℕ} 0 1 = cc in omega arith)
+
+end-some : (o : Option ℕ) (p : ℕ) → At p ≡ endOf o → o ≡ some p
+end-some none p e = absurd (let z : _≡_ {A = ℕ} 0 1 = cc in omega arith)
+end-some (some q) p e = let z : p ≡ q = cc in ap some (sym z)
+
+given-all : (b a e : Bool) (x : ℕ) (f : ℕ → Option ℕ) (p : ℕ) → f p ≡ given e x → given (b && (a && e)) x ≡ cond b (andThen (given a p) f) none
+given-all true true e x f p q = sym q
+given-all true false e x f p q = refl
+given-all false a e x f p q = refl
+
+given-none : (b a : Bool) (f : ℕ → Option ℕ) (p : ℕ) → f p ≡ none → none ≡ cond b (andThen (given a p) f) none
+given-none true true f p q = sym q
+given-none true false f p q = refl
+given-none false a f p q = refl
+
+module _ (ds : List ℕ) (k : ℕ) (open? : ℕ → Bool) (n : ℕ) (ls : List Counting.Limit) (at : ℕ) where
+  abbrev cell : ℕ
+  cell = byteAt ds (at + 1)
+
+  abbrev value : ℕ
+  value = num2 ds (at + 2)
+
+  abbrev lows : List Counting.Limit
+  lows = ls ++ (atMost cell value ∷ [])
+
+  abbrev highs : List Counting.Limit
+  highs = ls ++ (moreThan cell value ∷ [])
+
+  -- the tests of a leaf and of a split there, and the walk over the tree there
+  abbrev leafHere : Bool
+  leafHere = leafTest (2 ^ k) open? ls (bytesAt (λ b. b) ds (at + 1) n)
+
+  abbrev splitHere : Bool
+  splitHere = splitTest k open? cell value
+
+  abbrev walk : ℕ → Option ℕ
+  walk left = closedIn ds k open? left n ls at
+
+  abbrev node : Node
+  node = fitNode ds k open? n ls at
+
+  -- ---- the node
+  pub fit-leaf : (end : ℕ) (t : Bool) → Leaf end ≡ nodeIn ds n at → t ≡ leafHere → cond t (Leaf end) Off ≡ node
+  unfolding fitNode
+  fit-leaf end t e q = rw (← e, ← q) refl
+
+  pub fit-split : (t : Bool) → Split ≡ nodeIn ds n at → t ≡ splitHere → cond t Split Off ≡ node
+  unfolding fitNode
+  fit-split t e q = rw (← e, ← q) refl
+
+  pub fit-off : Off ≡ nodeIn ds n at → Off ≡ node
+  unfolding fitNode
+  fit-off e = rw (← e) refl
+
+  -- ---- a split: its two halves, one after the other
+  closed-split : (left : ℕ) → Split ≡ nodeIn ds n at
+      → walk (suc left) ≡ cond splitHere (andThen (closedIn ds k open? left (suc n) lows (at + 4)) (λ p. closedIn ds k open? left (suc n) highs p)) none
+  unfolding closedIn treeIn treeTest
+  closed-split left e = rw (← e) (first (treeIn ds left (suc n) (at + 4)))
+    where
+      made : Placed → Placed → Placed
+      made l r = record { tree = split cell value (l .tree) (r .tree); end = r .end }
+
+      under : List Counting.Limit → Placed → Bool
+      under xs t = treeTest (2 ^ k) open? valueFits xs (t .tree)
+
+      tested : List Counting.Limit → Placed → Option ℕ
+      tested xs t = given (under xs t) (t .end)
+
+      rest : ℕ → Option ℕ
+      rest p = andThen (treeIn ds left (suc n) p) (tested highs)
+
+      second : (l : Placed) (o : Option Placed) → treeIn ds left (suc n) (l .end) ≡ o
+          → andThen (andThen o (λ r. some (made l r))) (tested ls) ≡ cond splitHere (andThen (tested lows l) rest) none
+      second l none h = given-none splitHere (under lows l) rest (l .end) (rw h refl)
+      second l (some r) h = given-all splitHere (under lows l) (under highs r) (r .end) rest (l .end) (rw h refl)
+
+      shut : (b : Bool) → _≡_ {A = Option ℕ} none (cond b none none)
+      shut true = refl
+      shut false = refl
+
+      first : (o : Option Placed) → andThen (andThen o (λ l. andThen (treeIn ds left (suc n) (l .end)) (λ r. some (made l r)))) (tested ls)
+          ≡ cond splitHere (andThen (andThen o (tested lows)) rest) none
+      first none = shut splitHere
+      first (some l) = second l (treeIn ds left (suc n) (l .end)) refl
+
+  -- ---- the other nodes
+  closed-at-leaf : (left end : ℕ) → Leaf end ≡ nodeIn ds n at → walk left ≡ given leafHere end
+  unfolding closedIn treeIn treeTest
+  closed-at-leaf zero end e = rw (← e) refl
+  closed-at-leaf (suc left) end e = rw (← e) refl
+
+  closed-at-off : (left : ℕ) → Off ≡ nodeIn ds n at → walk left ≡ none
+  unfolding closedIn treeIn
+  closed-at-off zero e = rw (← e) refl
+  closed-at-off (suc left) e = rw (← e) refl
+
+  closed-too-deep : Split ≡ nodeIn ds n at → walk zero ≡ none
+  unfolding closedIn treeIn
+  closed-too-deep e = rw (← e) refl
+
+  -- ---- by the node that fits
+  pub fit-is-split : Split ≡ node → (Split ≡ nodeIn ds n at) × (splitHere ≡ true)
+  unfolding fitNode
+  fit-is-split e = go (nodeIn ds n at) refl e
+    where
+      split-on : (b : Bool) → splitHere ≡ b → Split ≡ cond b Split Off → splitHere ≡ true
+      split-on true h q = h
+      split-on false h q = absurd (let z : _≡_ {A = ℕ} 0 1 = cc in omega arith)
+
+      no-leaf : (b : Bool) (end : ℕ) → Split ≡ cond b (Leaf end) Off → ⊥
+      no-leaf true end q = let z : _≡_ {A = ℕ} 0 1 = cc in omega arith
+      no-leaf false end q = let z : _≡_ {A = ℕ} 0 1 = cc in omega arith
+
+      go : (x : Node) → x ≡ nodeIn ds n at → Split ≡ fit ds k open? n ls at x → (Split ≡ nodeIn ds n at) × (splitHere ≡ true)
+      go (Leaf end) h q = absurd (no-leaf leafHere end q)
+      go Split h q = (h, split-on splitHere refl q)
+      go Off h q = absurd (let z : _≡_ {A = ℕ} 0 1 = cc in omega arith)
+
+  pub closed-leaf : (left end : ℕ) → Leaf end ≡ node → At end ≡ endOf (walk left)
+  unfolding fitNode
+  closed-leaf left end e = go (nodeIn ds n at) refl e
+    where
+      leaf-on : (f : ℕ) (b : Bool) → leafHere ≡ b → Leaf f ≡ nodeIn ds n at → Leaf end ≡ cond b (Leaf f) Off → At end ≡ endOf (walk left)
+      leaf-on f true h x q = let z : end ≡ f = cc in rw (closed-at-leaf left f x, h) (ap At z)
+      leaf-on f false h x q = absurd (let z : _≡_ {A = ℕ} 0 1 = cc in omega arith)
+
+      no-split : (b : Bool) → Leaf end ≡ cond b Split Off → ⊥
+      no-split true q = let z : _≡_ {A = ℕ} 0 1 = cc in omega arith
+      no-split false q = let z : _≡_ {A = ℕ} 0 1 = cc in omega arith
+
+      go : (x : Node) → x ≡ nodeIn ds n at → Leaf end ≡ fit ds k open? n ls at x → At end ≡ endOf (walk left)
+      go (Leaf f) h q = leaf-on f leafHere refl h q
+      go Split h q = absurd (no-split splitHere q)
+      go Off h q = absurd (let z : _≡_ {A = ℕ} 0 1 = cc in omega arith)
+
+  pub closed-off : (left : ℕ) → Off ≡ node → Nowhere ≡ endOf (walk left)
+  unfolding fitNode
+  closed-off left e = ap endOf (sym (go (nodeIn ds n at) refl e))
+    where
+      leaf-open : (f : ℕ) (b : Bool) → leafHere ≡ b → Leaf f ≡ nodeIn ds n at → Off ≡ cond b (Leaf f) Off → walk left ≡ none
+      leaf-open f true h x q = absurd (let z : _≡_ {A = ℕ} 0 1 = cc in omega arith)
+      leaf-open f false h x q = closed-at-leaf left f x ∙ rw h refl
+
+      split-off : (left : ℕ) (b : Bool) → splitHere ≡ b → Split ≡ nodeIn ds n at → Off ≡ cond b Split Off → walk left ≡ none
+      split-off left true h x q = absurd (let z : _≡_ {A = ℕ} 0 1 = cc in omega arith)
+      split-off zero false h x q = closed-too-deep x
+      split-off (suc left) false h x q = closed-split left x ∙ rw h refl
+
+      go : (x : Node) → x ≡ nodeIn ds n at → Off ≡ fit ds k open? n ls at x → walk left ≡ none
+      go (Leaf f) h q = leaf-open f leafHere refl h q
+      go Split h q = split-off left splitHere refl h q
+      go Off h q = closed-at-off left h
+
+  pub closed-deep : (left : ℕ) → left ≡ 0 → Split ≡ node → Nowhere ≡ endOf (walk left)
+  closed-deep left z e = rw (z, closed-too-deep (fit-is-split e .0)) refl
+
+  -- a split that fits: its first half, and then its second
+  module _ (left : ℕ) (e : Split ≡ node) (h : left ≡ 0 → ⊥) where
+    abbrev walkUnder : List Counting.Limit → ℕ → Option ℕ
+    walkUnder xs p = closedIn ds k open? (left - 1) (n + 1) xs p
+
+    halves : walk left ≡ andThen (walkUnder lows (at + 4)) (λ p. walkUnder highs p)
+    halves = let z : left ≡ suc (left - 1) = omega arith in let s = fit-is-split e in
+        ap walk z ∙ closed-split (left - 1) (s .0) ∙ rw (s .1, add-one n) refl
+
+    pub closed-first : (xs : List Counting.Limit) → xs ≡ lows → Nowhere ≡ endOf (walkUnder xs (at + 4)) → Nowhere ≡ endOf (walk left)
+    closed-first xs x q = rw (halves, ← x, end-none (walkUnder xs (at + 4)) q) refl
+
+    pub closed-second : (xs ys : List Counting.Limit) (p : ℕ) (r : Place) → xs ≡ lows → ys ≡ highs
+        → At p ≡ endOf (walkUnder xs (at + 4)) → r ≡ endOf (walkUnder ys p) → r ≡ endOf (walk left)
+    closed-second xs ys p r x y q t = t ∙ rw (halves, ← x, ← y, end-some (walkUnder xs (at + 4)) p q) refl
+
+-- ---- a split's test
+pub split-told : (k : ℕ) (open? : ℕ → Bool) (c v : ℕ) (o : Bool) (w : ℕ) → k ≤ 6 → o ≡ (leb k 6 && (ltb c (2 ^ k) && live open? c)) → w ≡ v
+    → (o && leb w 1000) ≡ splitTest k open? c v
+split-told k open? c v o w h e q = rw (e, q, le-leb k 6 h) (joined (ltb c (2 ^ k)) (live open? c) (leb v 1000))
+  where
+    joined : (a b d : Bool) → ((a && b) && d) ≡ (a && (b && d))
+    joined true b d = refl
+    joined false b d = refl
+
+pub split-value : (k : ℕ) (open? : ℕ → Bool) (c v : ℕ) → splitTest k open? c v ≡ true → v ≤ 1000
+split-value k open? c v h = so-leb v 1000 (and-r (live open? c) _ (and-r (ltb c (2 ^ k)) _ h))

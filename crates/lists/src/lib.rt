@@ -1,0 +1,1 @@
+// The refutation that evidence is: definitions alone.

@@ -1,0 +1,204 @@
+-- Rows as the code holds them: at most six in an array (01, "The counting step"; FORMAT 6).
+use Prim.Native.Nat.{ℕ, zero, suc, _+_, _-_, _/_, _%_, _<_, _≤_}
+use mathlib.Core.Path.{_≡_, refl, sym, _∙_, ap, ap₂}
+use mathlib.Core.Bool.{Bool, true, false, cond}
+use mathlib.Core.List.{List, [], _∷_}
+use mathlib.Core.Option.{Option, none, some}
+use native.Mathlib.Omega.{arith}
+use native.Mathlib.Decide.{decLe, decLt}
+use borrow.Author.Tests.{lt-ltb, le-ltb}
+use lib.Dec.{eqb, ltb}
+use lib.ListN.{getD, replicate}
+use Rattle.logic.specs.Lists.{tabulate}
+use Rattle.parts.specs.Numbers.{byteAt}
+use Rattle.counting.specs.Trees as Counting
+use Rattle.description.specs.Literals.{Literal, pos, neg, literal, code, literal-code}
+use Rattle.description.specs.Descriptions.{Entry, top, name, both, every, atLeast, entryOfFields}
+use Rattle.refutation.specs.Cells as Theory
+use Rattle.refutation.specs.Cells.{rowOf, rowFrom, rowsOf}
+use Rattle.tables.specs.Tables.{fieldsAt, describe}
+use Rattle.tables.specs.Concepts.{conceptOf, conceptAt, boundIn}
+use Rattle.tables.specs.declared.Concept.{Concept}
+use Rattle.tables.specs.declared.Concept.the-variants.{Top, Name, Both, Every, AtLeast}
+use Rattle.tables.specs.declared.Count.{Count}
+use Rattle.tables.specs.declared.RoleNo.{RoleNo}
+use Rattle.nodes.specs.NodeSteps.{opposed}
+use Rattle.list_form.specs.ListForm.{bytesAt}
+use Rattle.tables.specs.declared.Side.{Side}
+use Rattle.tables.specs.declared.Side.the-variants.{Lower, Upper}
+use Rattle.rows.specs.declared.Row.{Row}
+use Rattle.rows.specs.declared.RowOf.{RowOf}
+use Rattle.rows.specs.declared.RowOf.the-variants.{Is, Nothing}
+
+-- a side as the code's, and back
+abbrev pub heldSide : Counting.Side → Side
+heldSide Counting.lower = Lower
+heldSide Counting.upper = Upper
+
+abbrev pub sideOf : Side → Counting.Side
+sideOf Lower = Counting.lower
+sideOf Upper = Counting.upper
+
+-- a row as the code's, and back: its qualifier by the literal's number
+abbrev pub held : Theory.Row → Row
+held R = record { role = record { 0 = R .role }; qualifier = code (R .qualifier); bound = R .bound; side = heldSide (R .side) }
+
+abbrev pub given : Row → Theory.Row
+given x = record { role = x .role .0; qualifier = literal (x .qualifier); side = sideOf (x .side); bound = x .bound }
+
+abbrev pub heldRow : Option Theory.Row → RowOf
+heldRow none = Nothing
+heldRow (some R) = Is (held R)
+
+abbrev pub noRow : Row
+noRow = record { role = record { 0 = 0 }; qualifier = 0; bound = 0; side = Lower }
+
+-- row i of an array
+unfoldable pub heldAt : List Row → ℕ → Row
+heldAt rows i = cond (ltb i 6) (getD rows i noRow) noRow
+
+-- the first k rows of an array
+abbrev pub rowsHeld : List Row → ℕ → List Theory.Row
+rowsHeld rows k = tabulate k (λ i. given (heldAt rows i))
+
+-- row i of the step ds
+abbrev pub rowIn : List ℕ → List ℕ → ℕ → Row
+rowIn cs ds i = held (rowFrom (rowOf (describe [] cs []) (literal (byteAt ds (2 + i)))))
+
+-- the rows of the two kinds that give one, and of a concept: of its entry, or of the complement
+abbrev pub everyRow : RoleNo → ℕ → Bool → RowOf
+everyRow r l true = Is (record { role = r; qualifier = opposed l; bound = 1; side = Lower })
+everyRow r l false = Nothing
+
+abbrev pub countRow : Count → Bool → RowOf
+countRow m true = Is (record { role = m .role; qualifier = m .literal; bound = m .bound - 1; side = Upper })
+countRow m false = Is (record { role = m .role; qualifier = m .literal; bound = m .bound; side = m .side })
+
+abbrev pub conceptRow : Bool → Concept → RowOf
+conceptRow denied Top = Nothing
+conceptRow denied Name = Nothing
+conceptRow denied (Both a b) = Nothing
+conceptRow denied (Every r l) = everyRow r l denied
+conceptRow denied (AtLeast m) = countRow m denied
+
+-- ---- the rows of literals are told by the entries alone
+pub row-same : (rs cs qs : List ℕ) (l : Literal) → rowOf (describe [] cs []) l ≡ rowOf (describe rs cs qs) l
+row-same rs cs qs (pos e) = refl
+row-same rs cs qs (neg e) = refl
+
+pub rows-same : (rs cs qs : List ℕ) (lits : List Literal) → rowsOf (describe [] cs []) lits ≡ rowsOf (describe rs cs qs) lits
+unfolding rowsOf
+rows-same rs cs qs [] = refl
+rows-same rs cs qs (l ∷ lits) = ap₂ (λ o rows. rowFrom o ∷ rows) (row-same rs cs qs l) (rows-same rs cs qs lits)
+
+-- ---- laws for the row of a literal
+-- the row of an entry, or of its complement
+abbrev pub rowBy : Bool → Entry → Option Theory.Row
+rowBy true x = Theory.negativeRow x
+rowBy false x = Theory.positiveRow x
+
+pub literal-row : (cs : List ℕ) (l : ℕ) → rowBy (eqb (l % 2) 1) (entryOfFields (fieldsAt cs (l / 2))) ≡ rowOf (describe [] cs []) (literal l)
+unfolding literal
+literal-row cs l = elim (decLe 1 (l % 2)) [
+  | yes q ↦ (let z : l % 2 ≡ 1 = omega arith in rw z refl)
+  | no q ↦ (let z : l % 2 ≡ 0 = omega arith in rw z refl)
+]
+
+-- on the concept that the code has read
+concept-row : (b : Bool) (x : Entry) → conceptRow b (conceptOf x) ≡ heldRow (rowBy b x)
+unfolding conceptOf
+concept-row true top = refl
+concept-row true name = refl
+concept-row true (both a c) = refl
+concept-row true (every r l) = rw (literal-code l) refl
+concept-row true (atLeast r l n) = refl
+concept-row false top = refl
+concept-row false name = refl
+concept-row false (both a c) = refl
+concept-row false (every r l) = refl
+concept-row false (atLeast r l n) = refl
+
+pub row-read : (cs : List ℕ) (l : ℕ) (x : RowOf) (c d : Concept) → c ≡ conceptAt cs (l / 2) → c ≡ d → x ≡ conceptRow (eqb (l % 2) 1) d
+    → x ≡ heldRow (rowOf (describe [] cs []) (literal l))
+row-read cs l x c d p q e = e ∙ ap (conceptRow (eqb (l % 2) 1)) (sym q ∙ p) ∙ concept-row (eqb (l % 2) 1) (entryOfFields (fieldsAt cs (l / 2))) ∙ ap heldRow (literal-row cs l)
+
+-- the bound of an "at least" that was read
+pub count-few : (c : Concept) (m : Count) → boundIn c < 65536 → c ≡ AtLeast m → m .bound < 65536
+count-few c m h e = rw e at h
+
+pub every-denied : (r : RoleNo) (l q : ℕ) (b : Bool) → b ≡ true → q ≡ opposed l → Is (record { role = r; qualifier = q; bound = 1; side = Lower }) ≡ everyRow r l b
+every-denied r l q b p e = rw (p, e) refl
+
+pub count-least : (m : Count) (n : ℕ) (b : Bool) → b ≡ false → n ≡ m .bound → Is (record { role = m .role; qualifier = m .literal; bound = n; side = m .side }) ≡ countRow m b
+count-least m n b p e = rw (p, e) refl
+
+pub count-most : (m : Count) (n : ℕ) (b : Bool) → b ≡ true → n ≡ m .bound - 1 → Is (record { role = m .role; qualifier = m .literal; bound = n; side = Upper }) ≡ countRow m b
+count-most m n b p e = rw (p, e) refl
+
+-- row i of the step, where its literal gives a row, and where it gives none
+module _ (cs ds : List ℕ) (i l : ℕ) (p : l ≡ byteAt ds (2 + i)) where
+  abbrev found : Option Theory.Row
+  found = rowOf (describe [] cs []) (literal l)
+
+  at-step : held (rowFrom found) ≡ rowIn cs ds i
+  at-step = ap (λ m. held (rowFrom (rowOf (describe [] cs []) (literal m)))) p
+
+  pub in-row : (y : RowOf) (x : Row) → y ≡ heldRow found → y ≡ Is x → x ≡ rowIn cs ds i
+  in-row y x e q = is found (sym q ∙ e) ∙ at-step
+    where
+      is : (o : Option Theory.Row) → Is x ≡ heldRow o → x ≡ held (rowFrom o)
+      is none e = absurd (let z : _≡_ {A = ℕ} 0 1 = cc in omega arith)
+      is (some R) e = cc
+
+  pub in-none : (y : RowOf) → y ≡ heldRow found → y ≡ Nothing → noRow ≡ rowIn cs ds i
+  in-none y e q = is found (sym q ∙ e) ∙ at-step
+    where
+      is : (o : Option Theory.Row) → Nothing ≡ heldRow o → noRow ≡ held (rowFrom o)
+      is none e = refl
+      is (some R) e = absurd (let z : _≡_ {A = ℕ} 0 1 = cc in omega arith)
+
+-- ---- laws for the array
+pub at-held : (rows : List Row) (i : ℕ) (x : Row) → i < 6 → x ≡ getD rows i noRow → x ≡ heldAt rows i
+unfolding heldAt
+at-held rows i x h e = rw (lt-ltb i 6 h) e
+
+pub past-held : (rows : List Row) (i : ℕ) (x : Row) → 6 ≤ i → x ≡ noRow → x ≡ heldAt rows i
+unfolding heldAt
+past-held rows i x h e = rw (le-ltb i 6 h) e
+
+-- what is held is given back
+pub given-held : (R : Theory.Row) → given (held R) ≡ R
+given-held R = same (R .role) (R .bound) _ _ _ _ (literal-code (R .qualifier)) (side (R .side))
+  where
+    same : (r b : ℕ) (l m : Literal) (s t : Counting.Side) → l ≡ m → s ≡ t
+        → _≡_ {A = Theory.Row} (record { role = r; qualifier = l; side = s; bound = b }) (record { role = r; qualifier = m; side = t; bound = b })
+    same r b l m s t p q = rw (p, q) refl
+
+    side : (s : Counting.Side) → sideOf (heldSide s) ≡ s
+    side Counting.lower = refl
+    side Counting.upper = refl
+
+-- an array that holds the first k rows of the step
+pub rows-held : (cs ds : List ℕ) (rows : List Row) (k : ℕ) → k ≤ 6 → ((i : ℕ) → i < k → getD rows i noRow ≡ rowIn cs ds i)
+    → rowsHeld rows k ≡ rowsOf (describe [] cs []) (bytesAt literal ds 2 k)
+unfolding rowsOf tabulate
+rows-held cs ds rows k few e = go k (λ i. given (heldAt rows i)) (λ i. literal (byteAt ds (2 + i)))
+    (λ i h. ap given (sym (at-held rows i (rowIn cs ds i) (omega arith) (sym (e i h)))) ∙ given-held (rowFrom (rowOf (describe [] cs []) (literal (byteAt ds (2 + i))))))
+  where
+    go : (k : ℕ) (f : ℕ → Theory.Row) (g : ℕ → Literal) → ((i : ℕ) → i < k → f i ≡ rowFrom (rowOf (describe [] cs []) (g i))) → tabulate k f ≡ rowsOf (describe [] cs []) (tabulate k g)
+    go zero f g h = refl
+    go (suc k) f g h = ap₂ _∷_ (h 0 (omega arith)) (go k (λ i. f (suc i)) (λ i. g (suc i)) (λ i l. h (suc i) (omega arith)))
+
+-- behind the rows that are filled stands none
+pub none-behind : (x : Row) → x ≡ noRow → (m : ℕ) → getD (replicate 6 x) m noRow ≡ noRow
+none-behind x e zero = e
+none-behind x e (suc zero) = e
+none-behind x e (suc (suc zero)) = e
+none-behind x e (suc (suc (suc zero))) = e
+none-behind x e (suc (suc (suc (suc zero)))) = e
+none-behind x e (suc (suc (suc (suc (suc zero))))) = e
+none-behind x e (suc (suc (suc (suc (suc (suc m)))))) = refl
+
+pub none-held : (rows : List Row) (i : ℕ) → getD rows i noRow ≡ noRow → heldAt rows i ≡ noRow
+unfolding heldAt
+none-held rows i e = elim (decLt i 6) [ yes l ↦ rw (lt-ltb i 6 l) e | no l ↦ (let z : 6 ≤ i = omega arith in rw (le-ltb i 6 z) refl) ]

@@ -1,0 +1,176 @@
+// The rows of a counting step: read from the table, held in an array, and lent as a slice.
+ghost use mathlib.Core.Path.{_≡_};
+ghost use mathlib.Core.List.{[]};
+ghost use Prim.Native.Nat.{ℕ, _<_, _≤_, _^_};
+ghost use lib.ListN.{length, getD};
+ghost use Rattle.description.specs.Literals.{literal};
+ghost use Rattle.tables.specs.Tables.{describe};
+ghost use Rattle.parts.specs.Numbers.{upTo};
+ghost use Rattle.list_form.specs.ListForm.{bytesAt};
+ghost use Rattle.refutation.specs.Cells.{rowOf, rowsOf};
+ghost use Rattle.rows.specs.HeldRows.{noRow, heldAt, heldRow, everyRow, countRow, rowsHeld, rowIn};
+use nodes::opposite;
+use parts::byte;
+use parts::up_to;
+use tables::Concept;
+use tables::Count;
+use tables::EntryNo;
+use tables::RoleNo;
+use tables::Side;
+use tables::concept_at;
+
+pub struct Row {
+    pub role: RoleNo,
+    pub qualifier: u8,
+    pub bound: u16,
+    pub side: Side,
+}
+
+// The row that a literal gives, if it gives one.
+pub enum RowOf {
+    Is(Row),
+    Nothing,
+}
+
+// The number of cells of `k` rows, or of 6 if there are more; cell 0 too.
+pub fn cell_count(k: u8) -> usize
+    ensures { λ r. ⌜ (r ≡ 2 ^ upTo 6 k) × (r ≤ 64) ⌝ }
+{
+    1 << (up_to(6, k as usize) as usize)
+}
+
+// A two-byte number as a word of two bytes.
+fn narrow(n: usize) -> u16
+    requires { ⌜ n < 65536 ⌝ }
+    ensures { λ r. ⌜ r ≡ n ⌝ }
+{
+    (n % 65536) as u16
+}
+
+// The row of "every R l": none, or that of its complement.
+fn every_row(role: RoleNo, l: u8, denied: bool) -> RowOf
+    ensures { λ r. ⌜ r ≡ everyRow role l denied ⌝ }
+{
+    if denied {
+        RowOf::Is(Row {
+            role: role,
+            qualifier: opposite(l),
+            bound: 1,
+            side: Side::Lower,
+        })
+    } else {
+        RowOf::Nothing
+    }
+}
+
+// The row of an "at least", on its own side, or that of its complement.
+fn count_row(m: Count, denied: bool) -> RowOf
+    requires { ⌜ m .bound < 65536 ⌝ }
+    ensures { λ r. ⌜ r ≡ countRow m denied ⌝ }
+{
+    let role = m.role;
+    let side = m.side;
+    let n = m.bound;
+    if !denied {
+        return RowOf::Is(Row {
+            role: role,
+            qualifier: m.literal,
+            bound: narrow(n),
+            side: side,
+        });
+    }
+    if n == 0 {
+        return RowOf::Is(Row {
+            role: role,
+            qualifier: m.literal,
+            bound: 0,
+            side: Side::Upper,
+        });
+    }
+    RowOf::Is(Row {
+        role: role,
+        qualifier: m.literal,
+        bound: narrow(n - 1),
+        side: Side::Upper,
+    })
+}
+
+// The row that literal `l` gives.
+pub fn row_of(cs: &[u8], l: u8) -> RowOf
+    ensures { λ r. ⌜ r ≡ heldRow (rowOf (describe [] (now (cs .entry)) []) (literal l)) ⌝ }
+{
+    let concept = concept_at(cs, EntryNo(l / 2));
+    let denied = l % 2 == 1;
+    match concept {
+        Concept::Every(role, q) => every_row(role, q, denied),
+        Concept::AtLeast(count) => count_row(count, denied),
+        Concept::Top => RowOf::Nothing,
+        Concept::Name => RowOf::Nothing,
+        Concept::Both(_, _) => RowOf::Nothing,
+    }
+}
+
+// The row that stands for none.
+fn no_row() -> Row
+    ensures { λ r. ⌜ r ≡ noRow ⌝ }
+{
+    Row {
+        role: RoleNo(0),
+        qualifier: 0,
+        bound: 0,
+        side: Side::Lower,
+    }
+}
+
+// Row `i` of the step `ds`.
+fn row_in(cs: &[u8], ds: &[u8], i: usize) -> Row
+    requires { ⌜ i < 6 ⌝ }
+    ensures { λ r. ⌜ r ≡ rowIn (now (cs .entry)) (now (ds .entry)) i ⌝ }
+{
+    let row = row_of(cs, byte(ds, 2 + i));
+    match row {
+        RowOf::Is(found) => found,
+        RowOf::Nothing => no_row(),
+    }
+}
+
+// The first `k` rows of the step `ds`, or 6 if there are more; none behind them.
+pub fn rows_of(cs: &[u8], ds: &[u8], k: u8) -> [Row; 6]
+    ensures { λ r. ⌜ (rowsHeld r (upTo 6 k) ≡ rowsOf (describe [] (now (cs .entry)) []) (bytesAt literal (now (ds .entry)) 2 (upTo 6 k))) × ((i : ℕ) → upTo 6 k ≤ i → heldAt r i ≡ noRow) ⌝ }
+{
+    let n = up_to(6, k as usize) as usize;
+    let mut rows = [no_row(); 6];
+    let mut i: usize = 0;
+    while i < n {
+        rows[i] = row_in(cs, ds, i);
+        i += 1;
+    }
+    rows
+}
+
+// Row `i` of rows that are lent.
+fn lent_row(rows: &[Row], i: usize) -> Row
+    requires { ⌜ i < length (now rows) ⌝ }
+    ensures { λ r. ⌜ r ≡ getD (now (rows .entry)) i noRow ⌝ }
+{
+    rows[i]
+}
+
+// Row `i` of the rows that an array holds, which is lent.
+fn held_row(rows: [Row; 6], i: usize) -> Row
+    requires { ⌜ i < 6 ⌝ }
+    ensures { λ r. ⌜ r ≡ getD rows i noRow ⌝ }
+{
+    lent_row(&rows, i)
+}
+
+// Row `i` of the rows held; none past the sixth.
+pub fn row_at(rows: [Row; 6], i: u8) -> Row
+    ensures { λ r. ⌜ r ≡ heldAt rows i ⌝ }
+{
+    if i < 6 {
+        held_row(rows, i as usize)
+    } else {
+        no_row()
+    }
+}
