@@ -1,0 +1,5 @@
+pub mod Exact
+pub mod Lifted
+pub mod Cut
+pub mod Trials
+pub mod Others

@@ -1,0 +1,8 @@
+pub mod Places
+pub mod Numbers
+pub mod Bundles
+pub mod Trees
+pub mod Steps
+pub mod Nodes
+pub mod Encoding
+pub mod Examples

@@ -1,0 +1,80 @@
+-- The bytes of a graph's record (01, "Evidence", Graph; FORMAT 4), and that they are read back.
+use Prim.Native.Nat.{ℕ, _+_, _*_, _/_, _^_, _≤_, _<_}
+use mathlib.Core.Path.{_≡_, refl, sym, _∙_, ap, ap₂}
+use mathlib.Core.List.{List, [], _∷_, _++_, map, flatten}
+use native.Mathlib.Omega.{arith}
+use lib.ListN.{length, getD, length-map}
+use Rattle.logic.specs.Lists.{_∈_}
+use Rattle.graph.specs.Graphs.{Edge, Node}
+use Rattle.evidence.specs.Evidence.{edgeIn, edgesIn, nodeIn, mostEdges, NodeForm}
+use Rattle.encoding.specs.Places.{Stands, first, second, byte, before, stands-piece, before-all, before-even, read-off, at-map, each-map, Small, small-more, small-append, small-flatten}
+use Rattle.encoding.specs.Numbers.{two, eight, two-bytes, eight-bytes, label-back}
+
+-- the target, the mask, the count
+abbrev pub encodeEdge : Edge → List ℕ
+encodeEdge E = E .target ∷ (two (E .mask) ++ two (E .count))
+
+-- a label, then edges
+unfoldable pub encodeNode : Node → List ℕ
+encodeNode N = eight (N .label) ++ flatten (map encodeEdge (N .edges))
+
+-- ---- what these bytes have room for
+pub record EdgeWidth (E : Edge) : Type 0 where
+  pub target-fits : E .target < 256
+  pub mask-fits : E .mask < 65536
+  pub count-fits : E .count < 65536
+
+pub record NodeWidth (N : Node) : Type 0 where
+  pub label-fits : N .label < 2 ^ 64
+  pub few-edges : length (N .edges) ≤ mostEdges
+  pub edges-fit : (E : Edge) → E ∈ N .edges → EdgeWidth E
+
+-- ---- read back
+edge-back : {s : List ℕ} (j : ℕ) (E : Edge) → Stands s (5 * j) (encodeEdge E) → edgeIn s j ≡ E
+edge-back j E h = let after = second (E .target ∷ []) (two (E .mask) ++ two (E .count)) h in
+    let z : 5 * j + 1 + 2 ≡ 5 * j + 3 = omega arith in
+    rw (
+      byte (E .target) (two (E .mask) ++ two (E .count)) h,
+      two-bytes .back (E .mask) (first (two (E .mask)) (two (E .count)) after),
+      two-bytes .back (E .count) (rw z at (second (two (E .mask)) (two (E .count)) after)),
+    ) refl
+
+-- past the end
+abbrev noEdge : Edge
+noEdge = record { target = 0; mask = 0; count = 0 }
+
+module _ (es : List Edge) where
+  edge-at : (j : ℕ) → j < length es → getD (map encodeEdge es) j [] ≡ encodeEdge (getD es j noEdge)
+  edge-at j h = at-map encodeEdge es noEdge [] j h
+
+  before-edge : (j : ℕ) → j ≤ length es → before (map encodeEdge es) j ≡ 5 * j
+  before-edge j h = before-even 5 (map encodeEdge es) [] (λ i l. ap length (edge-at i (omega (arith, length-map es encodeEdge)))) j (omega (arith, length-map es encodeEdge))
+
+  edges-length : length (flatten (map encodeEdge es)) ≡ 5 * length es
+  edges-length = sym (before-all (map encodeEdge es)) ∙ ap (before (map encodeEdge es)) (length-map es encodeEdge) ∙ before-edge (length es) (omega arith)
+
+  edges-back : edgesIn (flatten (map encodeEdge es)) ≡ es
+  edges-back = read-off noEdge es (length (flatten (map encodeEdge es)) / 5) (edgeIn (flatten (map encodeEdge es))) (omega (arith, edges-length))
+      (λ j h. let l : j < length es = omega (arith, edges-length) in
+      edge-back j _ (rw (edge-at j l, before-edge j (omega arith)) at (stands-piece (map encodeEdge es) [] j (omega (arith, length-map es encodeEdge)))))
+
+module _ (N : Node) where
+  pub node-back : nodeIn (encodeNode N) ≡ N
+  unfolding encodeNode
+  node-back = ap₂ (λ L es. record { label = L; edges = es }) (label-back (N .label) (flatten (map encodeEdge (N .edges)))) (edges-back (N .edges))
+
+  pub node-length : length (encodeNode N) ≡ 8 + 5 * length (N .edges)
+  unfolding encodeNode
+  node-length = omega (arith, edges-length (N .edges))
+
+  pub node-form : NodeWidth N → NodeForm (length (encodeNode N))
+  node-form w = omega (arith, node-length)
+
+  -- it is bytes
+  pub node-small : NodeWidth N → Small (encodeNode N)
+  unfolding encodeNode
+  node-small w = small-append (eight (N .label)) (eight-bytes .small (N .label) (w .label-fits))
+      (small-flatten (map encodeEdge (N .edges)) (each-map Small encodeEdge (N .edges) (λ E m. edge-small E (w .edges-fit E m))))
+    where
+      edge-small : (E : Edge) → EdgeWidth E → Small (encodeEdge E)
+      edge-small E f = small-more (f .target-fits) (small-append (two (E .mask)) (two-bytes .small (E .mask) (f .mask-fits)) (two-bytes .small (E .count) (f .count-fits)))

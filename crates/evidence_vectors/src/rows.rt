@@ -1,0 +1,94 @@
+// What the public functions answer to a row.
+use super::tally::Answer;
+use super::tally::expected;
+use super::tally::line_digits;
+use super::tally::of_reading;
+use super::tally::of_verdict;
+use super::tally::of_written;
+use super::tally::same;
+use super::tally::told;
+use line_reader::read_interpretation;
+use line_writer::write_interpretation;
+use report::description_part;
+use report::evidence_part;
+use report::input_space;
+use vector_rows::byte_said;
+use vector_rows::decode;
+use vector_rows::field;
+use vector_rows::number;
+use verdict::check_evidence;
+
+// Each byte of a buffer before the writer is called.
+const UNWRITTEN: u8 = 165;
+
+// A row of the checker: the program's input.
+pub(crate) fn check_row(line: &[u8]) -> Answer {
+    let mut space = input_space();
+    let n = decode(field(line, 0, b'\t'), &mut space);
+    let input = &space[..n];
+    of_verdict(check_evidence(description_part(input), evidence_part(input)))
+}
+
+// A row of the reader: a description and a line.
+pub(crate) fn read_row(line: &[u8]) -> Answer {
+    let mut description = [0; 512];
+    let n = decode(field(line, 0, b'\t'), &mut description);
+    let mut space = [0; 16384];
+    let m = decode(field(line, 1, b'\t'), &mut space);
+    of_reading(read_interpretation(&description[..n], &space[..m]))
+}
+
+// Whether each byte is the one that the digits say, and past them the one that stood there before.
+fn bytes_are(buf: &[u8], hex: &[u8]) -> bool {
+    let mut i = 0;
+    while i < buf.len() {
+        if buf[i] != byte_said(hex, i, UNWRITTEN) {
+            return false;
+        }
+        i += 1;
+    }
+    true
+}
+
+// Whether the first `n` bytes read as a model.
+fn holds(d: &[u8], buf: &[u8], n: usize) -> bool {
+    if buf.len() < n {
+        return false;
+    }
+    let r = of_reading(read_interpretation(d, &buf[..n]));
+    r.word == b'H'
+}
+
+// What the writer answered to a row that expects `text`; if that is right, also whether the buffer is, and the line holds.
+fn judge(got: Answer, d: &[u8], buf: &[u8], text: &[u8]) -> Answer {
+    if !same(got, expected(text)) {
+        return got;
+    }
+    if !bytes_are(buf, line_digits(text)) {
+        return told(b'O', got.number, got.place);
+    }
+    if (got.word == b'L') & !holds(d, buf, got.number) {
+        return told(b'N', got.number, got.place);
+    }
+    got
+}
+
+// The writer's answer, with the first `size` bytes of a buffer.
+fn write_into(d: &[u8], s: &[u8], buf: &mut [u8], size: usize) -> Answer {
+    if buf.len() < size {
+        return of_written(write_interpretation(d, s, buf));
+    }
+    of_written(write_interpretation(d, s, &mut buf[..size]))
+}
+
+// A row of the writer: a description, a graph, the length of the buffer.
+pub(crate) fn write_row(line: &[u8]) -> Answer {
+    let mut description = [0; 512];
+    let n = decode(field(line, 0, b'\t'), &mut description);
+    let mut space = [0; 16384];
+    let m = decode(field(line, 1, b'\t'), &mut space);
+    let size = number(field(line, 2, b'\t'));
+    let mut buf = [UNWRITTEN; 16384];
+    let got = write_into(&description[..n], &space[..m], &mut buf, size);
+    judge(got, &description[..n], &buf, field(line, 3, b'\t'))
+}

@@ -1,0 +1,4 @@
+pub mod Input
+pub mod Cut
+pub mod Text
+pub mod TextLaws
