@@ -1,27 +1,30 @@
--- Demand 2 on bytes: INHABITED and EMPTY are told exactly when the description and the evidence keep the rules, and they are true.
-use Prim.Native.Nat.{ℕ}
+-- Demand 2 on bytes: INHABITED and EMPTY are told exactly when the description and the evidence keep the rules, they are true, and after INHABITED the line is written.
+use Prim.Native.Nat.{ℕ, _*_, _≤_}
 use mathlib.Core.Path.{_≡_, refl}
 use mathlib.Core.Logic.{_↔_}
 use mathlib.Core.Bool.{Bool, true, false, cond}
 use mathlib.Core.List.{List}
 use mathlib.Core.Option.{none}
 use native.Mathlib.Omega.{arith}
+use lib.ListN.{length}
 use Rattle.logic.specs.Refusals.{refuse↔}
 use Rattle.description.specs.Descriptions.{Description, wanted}
 use Rattle.interpretation.specs.Meaning.{Interpretation}
 use Rattle.interpretation.specs.Models.{Model, Satisfies}
-use Rattle.graph.specs.Line.{line}
+use Rattle.graph.specs.Line.{copies, line}
 use Rattle.graph.specs.Sound.{graph-sound}
 use Rattle.refutation.specs.Sound.{refutation-sound}
 use Rattle.intake.specs.Intake.{described, AcceptedBytes, accepted-bytes↔}
 use Rattle.evidence.specs.Evidence.{graphIn}
 use Rattle.graph_check.specs.GraphEvidence.{GraphKept, kept↔}
+use Rattle.lines.specs.Lines.{lineLength, mostElements}
+use Rattle.line_writer.specs.Writing.{writeAnswer, written↔}
 use Rattle.lists.specs.Lists.{refutationIn}
 use Rattle.lists.specs.ListEvidence.{ListKept, list-kept↔}
 use Rattle.answers.specs.declared.Verdict.{Verdict}
 use Rattle.answers.specs.declared.Verdict.the-variants.{Inhabited, Empty}
 use Rattle.answers.specs.Answers as Case
-use Rattle.answers.specs.Answers.{Word, REFUSED, INHABITED, EMPTY, answer, told↔, ofVerdict, case-when}
+use Rattle.answers.specs.Answers.{Word, REFUSED, INHABITED, EMPTY, WRITTEN, answer, told↔, ofVerdict, case-when}
 use Rattle.verdict.specs.Verdict.{isList, evidenceTests, evidenceRefused, shown, verdict}
 
 -- a word but REFUSED is told exactly if it is what such evidence shows and none of 1 to 20 refuses
@@ -68,6 +71,17 @@ module _ (d s : List ℕ) (v : Verdict) (e : ofVerdict v ≡ verdict d s) where
 
   pub empty-when : (v ≡ Empty) ↔ (AcceptedBytes d × ListKept (described d) (wanted (described d)) s)
   empty-when = case-when (ofVerdict v) (verdict d s) (answer EMPTY none) e (Case.empty↔ v) (empty↔ d s)
+
+-- ---- and written: for evidence that is INHABITED, and no other, a line of n·K elements is written if they are at most 64 and a buffer of b bytes has room for it
+module _ (d s : List ℕ) (b : ℕ) where
+  abbrev size : ℕ
+  size = length (graphIn s) * copies (graphIn s)
+
+  pub inhabited-written : verdict d s ≡ answer INHABITED none → size ≤ mostElements → lineLength size ≤ b → writeAnswer d s b ≡ answer WRITTEN none
+  inhabited-written e few room = written↔ d s b .1 (inhabited↔ d s .0 e, (few, room))
+
+  pub written-inhabited : writeAnswer d s b ≡ answer WRITTEN none → verdict d s ≡ answer INHABITED none
+  written-inhabited e = inhabited↔ d s .1 (written↔ d s b .0 e .0)
 
 -- ---- and true
 -- after INHABITED the line of the graph is a model of the description, and has the root

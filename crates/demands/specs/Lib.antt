@@ -3,3 +3,4 @@ pub mod Lifted
 pub mod Cut
 pub mod Trials
 pub mod Others
+pub mod Steps

@@ -17,7 +17,7 @@ use Rattle.intake.specs.Intake.{described, AcceptedBytes}
 use Rattle.evidence.specs.Evidence.{HeadOk, recordCount, recordAt, graphIn, NodeForm}
 use Rattle.lists.specs.Lists.{refutationIn, RecordForm}
 use Rattle.encoding.specs.Places.{Small, small-all}
-use Rattle.encoding.specs.Encoding.{encodeGraph, GraphStored, graph-stored, graph-bytes, encodeRefutation, RefutationStored, refutation-stored, refutation-bytes}
+use Rattle.encoding.specs.Encoding.{encodeGraph, GraphStored, graph-stored, graph-bytes, graph-fits, graph-again, encodeRefutation, RefutationStored, refutation-stored, refutation-bytes, refutation-fits, refutation-again}
 use Rattle.answers.specs.Answers.{Word, INHABITED, EMPTY, answer}
 use Rattle.verdict.specs.Verdict.{verdict}
 use Rattle.demands.specs.Exact.{inhabited↔, empty↔}
@@ -100,6 +100,20 @@ only-evidence d s (inr e) = let k = empty↔ d s .0 e .1 in (refutation (refutat
 pub stored : (E : Evidence) → Stored E → Small (encode E) × Decodes (encode E) E
 stored (sample G) w = (small-all (graph-bytes G w), graph-stored G w)
 stored (refutation C) w = (small-all (refutation-bytes C w), refutation-stored C w)
+
+-- and the evidence of some bytes is lifted evidence that bytes have room for,
+pub decoded-stored : (s : List ℕ) (E : Evidence) → Small s → Decodes s E → Stored E
+decoded-stored s (sample G) b (head, kind, forms, is) = subst GraphStored is (graph-fits b head forms)
+decoded-stored s (refutation C) b (head, kind, forms, is) = subst RefutationStored is (refutation-fits b head forms)
+
+-- of no other bytes: it is written as they are
+pub encode-decoded : (s : List ℕ) (E : Evidence) → Small s → Decodes s E → encode E ≡ s
+encode-decoded s (sample G) b (head, kind, forms, is) = subst (λ H. encodeGraph H ≡ s) is (graph-again b head forms kind)
+encode-decoded s (refutation C) b (head, kind, forms, is) = subst (λ B. encodeRefutation B ≡ s) is (refutation-again b head forms kind)
+
+-- so bytes have room for what some bytes are, and for nothing else
+pub stored-when : (E : Evidence) → Stored E ↔ ((s : List ℕ) × Small s × Decodes s E)
+stored-when E = (λ w. (encode E, stored E w .0, stored E w .1), λ t. decoded-stored (t .0) E (t .1) (t .2))
 
 -- within the limits, then, it keeps the rules exactly when its word is the answer to its bytes
 pub stored↔ : (d : List ℕ) → AcceptedBytes d → (E : Evidence) → Stored E → WithinLimits E → KeepsRules (described d) E ↔ (verdict d (encode E) ≡ answer (wordOf E) none)

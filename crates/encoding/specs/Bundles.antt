@@ -1,14 +1,15 @@
--- Records under a head (01, "Evidence"; FORMAT 4), and that they are read back.
+-- Records under a head (01, "Evidence"; FORMAT 4), that they are read back, and that they are written again as they were read.
 use Prim.Native.Nat.{ℕ, zero, suc, _+_, _*_, _≤_, _<_}
 use mathlib.Core.Path.{_≡_, refl, sym, _∙_, ap, subst}
 use mathlib.Core.List.{List, [], _∷_, _++_, map, flatten}
 use native.Mathlib.Omega.{arith}
-use lib.ListN.{length, getD, length-append, length-map}
-use Rattle.logic.specs.Lists.{_∈_, tabulate, length-tabulate, at-tabulate, at-member, member-at}
+use lib.ListN.{length, getD, drop, length-append, length-drop, length-map}
+use lib.Seq.{length-take-le}
+use Rattle.logic.specs.Lists.{_∈_, tabulate, length-tabulate, at-tabulate, tabulate-cong, at-member, member-at}
 use Rattle.parts.specs.Numbers.{byteAt}
-use Rattle.parts.specs.Pairs.{offsetAt, lengthAt, beginAt, Fills}
+use Rattle.parts.specs.Pairs.{offsetAt, lengthAt, beginAt, Fills, pair-inside}
 use Rattle.evidence.specs.Evidence.{HeadOk, mostRecords, recordCount, recordAt}
-use Rattle.encoding.specs.Places.{Stands, stands-end, stands-in, first, second, part, before, stands-piece, before-next, before-all, before-even, read-off, at-map, each-map, Small, small-more, small-append, small-flatten}
+use Rattle.encoding.specs.Places.{Stands, stands-end, stands-in, first, second, part, stands-part, stands-append, stands-more, stands-whole, before, stands-piece, before-next, before-all, before-even, stands-flatten, read-off, at-map, each-map, map-tabulate, Small, small-more, small-append, small-flatten, small-in}
 use Rattle.encoding.specs.Numbers.{two, two-bytes}
 
 -- where record i begins: behind the head, the pairs and the records before it
@@ -112,3 +113,66 @@ module _ {A : Type 0} (kind : ℕ) (encode : A → List ℕ) (xs : List A) where
   records-back read d back = read-off d xs _ _ (bundle-count kind (map encode xs) ∙ length-map xs encode)
       (λ i h. let l : i < length xs = omega (arith, bundle-count kind (map encode xs), length-map xs encode) in
       ap read (bundle-record kind (map encode xs) i (omega (arith, length-map xs encode)) ∙ at-map encode xs d [] i l) ∙ back (getD xs i d) (at-member xs d i l))
+
+-- ---- written again as they were read
+abbrev pub recordsIn : List ℕ → List (List ℕ)
+recordsIn s = tabulate (recordCount s) (recordAt s)
+
+module _ {s : List ℕ} (b : Small s) (head : HeadOk s) where
+  abbrev n : ℕ
+  n = recordCount s
+
+  filled : Fills s 2 n (2 + 4 * n)
+  filled = head .1 .1 .1
+
+  stands-there : (i : ℕ) → i < n → Stands s (offsetAt s 2 i) (recordAt s i)
+  stands-there i h = stands-part (lengthAt s 2 i) (pair-inside s 2 n (2 + 4 * n) i filled h)
+
+  pub part-small : (i : ℕ) → i < n → Small (recordAt s i)
+  part-small i h = small-in b (stands-there i h)
+
+  records-many : length (recordsIn s) ≡ n
+  records-many = length-tabulate n (recordAt s)
+
+  record-there : (i : ℕ) → i < n → getD (recordsIn s) i [] ≡ recordAt s i
+  record-there i h = at-tabulate n (recordAt s) [] i h
+
+  length-again : (i : ℕ) → i < n → length (getD (recordsIn s) i []) ≡ lengthAt s 2 i
+  length-again i h = ap length (record-there i h) ∙ length-take-le (lengthAt s 2 i) (drop (offsetAt s 2 i) s)
+      (omega (arith, pair-inside s 2 n (2 + 4 * n) i filled h, length-drop (offsetAt s 2 i) s))
+
+  start-again : (i : ℕ) → i ≤ n → start (recordsIn s) i ≡ beginAt s 2 (2 + 4 * n) i
+  unfolding flatten
+  start-again zero h = omega (arith, records-many)
+  start-again (suc i) h = omega (arith, start-again i (omega arith), filled .1 .0 i h, before-next (recordsIn s) [] i (omega (arith, records-many)), length-again i h)
+
+  offset-again : (i : ℕ) → i < n → start (recordsIn s) i ≡ offsetAt s 2 i
+  offset-again i h = start-again i (omega arith) ∙ sym (filled .1 .0 i h)
+
+  pairs-here : Stands s 2 (flatten (pairs (recordsIn s)))
+  pairs-here = stands-flatten (pairs (recordsIn s)) (omega (arith, filled .0)) (λ i h. let l : i < n = omega (arith, pairs-many (recordsIn s), records-many) in
+      rw (before-pair (recordsIn s) i (omega (arith, records-many)), pair-at (recordsIn s) i (omega (arith, records-many)), offset-again i l, length-again i l)
+      (stands-append (two (offsetAt s 2 i)) (two (lengthAt s 2 i)) (two-bytes .again b (omega (arith, filled .0))) (two-bytes .again b (omega (arith, filled .0)))))
+
+  records-here : Stands s (2 + 4 * n) (flatten (recordsIn s))
+  records-here = stands-flatten (recordsIn s) (omega (arith, filled .0)) (λ i h. let l : i < n = omega (arith, records-many) in
+      let z : 2 + 4 * n + before (recordsIn s) i ≡ offsetAt s 2 i = omega (arith, offset-again i l, records-many) in rw (z, record-there i l) (stands-there i l))
+
+  pub bundle-again : bundle (byteAt s 0) (recordsIn s) ≡ s
+  unfolding bundle
+  bundle-again = let z : 2 + length (flatten (pairs (recordsIn s))) ≡ 2 + 4 * n = omega (arith, pairs-length (recordsIn s), records-many) in
+      stands-whole _ (stands-more _ _ refl (stands-more _ _ (sym records-many) (stands-append (flatten (pairs (recordsIn s))) (flatten (recordsIn s)) pairs-here (rw z records-here))))
+      (bundle-length (byteAt s 0) (recordsIn s) ∙ ap (start (recordsIn s)) records-many ∙ start-again n (omega arith) ∙ filled .1 .1)
+
+  pub bundle-fits : Fits (recordsIn s)
+  bundle-fits = record {
+    some-record = omega (arith, head .1 .0, records-many);
+    few-records = omega (arith, head .1 .1 .0, records-many);
+    starts = λ i h. let l : i < n = omega (arith, records-many) in rw (offset-again i l) (two-bytes .fits (2 + 4 * i) b);
+    lengths = λ i h. let l : i < n = omega (arith, records-many) in rw (length-again i l) (two-bytes .fits (2 + 4 * i + 2) b);
+  }
+
+-- if each record is written again as it was read, then all are
+pub records-again : {A : Type 0} (s : List ℕ) (encode : A → List ℕ) (read : List ℕ → A) → ((i : ℕ) → i < recordCount s → encode (read (recordAt s i)) ≡ recordAt s i)
+    → map encode (tabulate (recordCount s) (λ i. read (recordAt s i))) ≡ recordsIn s
+records-again s encode read again = map-tabulate encode (recordCount s) (λ i. read (recordAt s i)) ∙ tabulate-cong (recordCount s) _ (recordAt s) again

@@ -1,14 +1,15 @@
--- The bytes of a graph's record (01, "Evidence", Graph; FORMAT 4), and that they are read back.
-use Prim.Native.Nat.{ℕ, _+_, _*_, _/_, _^_, _≤_, _<_}
+-- The bytes of a graph's record (01, "Evidence", Graph; FORMAT 4), that they are read back, and that they are written again as they were read.
+use Prim.Native.Nat.{ℕ, _+_, _*_, _/_, _%_, _^_, _≤_, _<_}
 use mathlib.Core.Path.{_≡_, refl, sym, _∙_, ap, ap₂}
 use mathlib.Core.List.{List, [], _∷_, _++_, map, flatten}
 use native.Mathlib.Omega.{arith}
-use lib.ListN.{length, getD, length-map}
-use Rattle.logic.specs.Lists.{_∈_}
+use lib.ListN.{length, getD, drop, length-drop, length-map}
+use Rattle.logic.specs.Lists.{_∈_, length-tabulate, at-tabulate}
+use Rattle.parts.specs.Numbers.{num2}
 use Rattle.graph.specs.Graphs.{Edge, Node}
 use Rattle.evidence.specs.Evidence.{edgeIn, edgesIn, nodeIn, mostEdges, NodeForm}
-use Rattle.encoding.specs.Places.{Stands, first, second, byte, before, stands-piece, before-all, before-even, read-off, at-map, each-map, Small, small-more, small-append, small-flatten}
-use Rattle.encoding.specs.Numbers.{two, eight, two-bytes, eight-bytes, label-back}
+use Rattle.encoding.specs.Places.{Stands, first, second, byte, stands-append, stands-more, stands-whole, before, stands-piece, before-all, before-even, stands-flatten, read-off, at-map, each-map, each-value, Small, small-more, small-append, small-flatten, small-at, small-drop}
+use Rattle.encoding.specs.Numbers.{two, eight, two-bytes, eight-bytes, label-back, label-again}
 
 -- the target, the mask, the count
 abbrev pub encodeEdge : Edge → List ℕ
@@ -78,3 +79,32 @@ module _ (N : Node) where
     where
       edge-small : (E : Edge) → EdgeWidth E → Small (encodeEdge E)
       edge-small E f = small-more (f .target-fits) (small-append (two (E .mask)) (two-bytes .small (E .mask) (f .mask-fits)) (two-bytes .small (E .count) (f .count-fits)))
+
+-- ---- written again as they were read
+edge-again : {es : List ℕ} (j : ℕ) → Small es → 5 * j + 5 ≤ length es → Stands es (5 * j) (encodeEdge (edgeIn es j))
+edge-again {es} j b h = let z : 5 * j + 1 + 2 ≡ 5 * j + 3 = omega arith in
+    stands-more _ _ refl (stands-append (two (num2 es (5 * j + 1))) (two (num2 es (5 * j + 3))) (two-bytes .again b (omega arith)) (rw z (two-bytes .again b (omega arith))))
+
+edges-again : (es : List ℕ) → Small es → length es % 5 ≡ 0 → flatten (map encodeEdge (edgesIn es)) ≡ es
+edges-again es b e = stands-whole _ (stands-flatten (map encodeEdge (edgesIn es)) (omega arith) here) (omega (arith, edges-length (edgesIn es), many))
+  where
+    many : length (edgesIn es) ≡ length es / 5
+    many = length-tabulate (length es / 5) (edgeIn es)
+
+    here : (j : ℕ) → j < length (map encodeEdge (edgesIn es)) → Stands es (0 + before (map encodeEdge (edgesIn es)) j) (getD (map encodeEdge (edgesIn es)) j [])
+    here j h = let l : j < length es / 5 = omega (arith, many, length-map (edgesIn es) encodeEdge) in let z : 0 + 5 * j ≡ 5 * j = omega arith in
+        rw (before-edge (edgesIn es) j (omega (arith, many)), z, edge-at (edgesIn es) j (omega (arith, many)), at-tabulate (length es / 5) (edgeIn es) noEdge j l) (edge-again j b (omega arith))
+
+module _ {r : List ℕ} (b : Small r) (f : NodeForm (length r)) where
+  pub node-again : encodeNode (nodeIn r) ≡ r
+  unfolding encodeNode
+  node-again = label-again _ b (f .0) (edges-again (drop 8 r) (small-drop 8 b) (rw (length-drop 8 r) (f .1 .0)))
+
+  -- what is read from bytes has their widths
+  pub node-width : NodeWidth (nodeIn r)
+  node-width = record {
+    label-fits = eight-bytes .fits 0 b;
+    few-edges = omega (arith, f .1 .1, length-tabulate (length (drop 8 r) / 5) (edgeIn (drop 8 r)), length-drop 8 r);
+    edges-fit = each-value EdgeWidth (length (drop 8 r) / 5) (edgeIn (drop 8 r)) (λ j h. let s = small-drop 8 b in
+        record { target-fits = small-at s (5 * j); mask-fits = two-bytes .fits (5 * j + 1) s; count-fits = two-bytes .fits (5 * j + 3) s });
+  }

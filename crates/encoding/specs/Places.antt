@@ -1,5 +1,5 @@
 -- Bytes that stand at a place of other bytes, and lists that are read off place by place.
-use Prim.Native.Nat.{ℕ, zero, suc, _+_, _*_, _≤_, _<_}
+use Prim.Native.Nat.{ℕ, zero, suc, _+_, _-_, _*_, _≤_, _<_}
 use mathlib.Core.Path.{_≡_, refl, sym, _∙_, ap, subst}
 use mathlib.Core.Logic.{inl, inr}
 use mathlib.Core.List.{List, [], _∷_, _++_, map, flatten, List·Memᴰ·head, List·Memᴰ·tail, List·Memᴰ·cases-cons, List·Memᴰ·append-cases}
@@ -49,6 +49,34 @@ module _ {s : List ℕ} {at : ℕ} where
       long : length (take (length w) (drop at s)) ≡ length w
       long = length-take (length w) (drop at s) ∙ (omega (arith, h .inside, length-drop at s))
 
+  -- and so what is cut out stands there
+  pub stands-part : (n : ℕ) → at + n ≤ length s → Stands s at (take n (drop at s))
+  stands-part n h = let l = length-take n (drop at s) in let k = length-drop at s in record {
+    inside = omega arith;
+    same = λ i e. sym (getD-take n (drop at s) i 0 (omega arith) ∙ getD-drop at s i 0);
+  }
+
+  -- nothing; a byte and what stands behind it; one after the other
+  pub stands-none : at ≤ length s → Stands s at []
+  stands-none h = record { inside = omega arith; same = λ i l. absurd (omega arith) }
+
+  pub stands-append : (u v : List ℕ) → Stands s at u → Stands s (at + length u) v → Stands s at (u ++ v)
+  stands-append u v a b = record {
+    inside = omega (arith, b .inside, length-append u v);
+    same = λ i l. elim (decLt i (length u)) [
+      | yes k ↦ a .same i k ∙ sym (List·getD-append u v 0 i k)
+      | no k ↦ (let e : length u + (i - length u) ≡ i = omega arith in let z : at + length u + (i - length u) ≡ at + i = omega arith in
+          subst (λ j. byteAt s (at + i) ≡ byteAt (u ++ v) j) e (rw z at (b .same (i - length u) (omega (arith, length-append u v))) ∙ sym (getD-append-add u v (i - length u) 0)))
+    ];
+  }
+
+  pub stands-more : (b : ℕ) (w : List ℕ) → byteAt s at ≡ b → Stands s (at + 1) w → Stands s at (b ∷ w)
+  stands-more b w e h = stands-append (b ∷ []) w (record { inside = omega (arith, h .inside); same = λ i l. let z : i ≡ 0 = omega arith in rw (z, add-zero) e }) h
+
+-- what stands there and is as long is the whole
+pub stands-whole : {s : List ℕ} (w : List ℕ) → Stands s 0 w → length w ≡ length s → w ≡ s
+stands-whole {s} w h e = ext-getD 0 w s e (λ i l. let z : 0 + i ≡ i = omega arith in sym (rw z at (h .same i l)))
+
 -- ---- pieces one after another
 -- where piece i begins
 abbrev pub before : List (List ℕ) → ℕ → ℕ
@@ -81,6 +109,14 @@ before-between a b ws d h (suc i) l = omega (arith, before-next ws d i l, h i l,
 pub before-even : (k : ℕ) (ws : List (List ℕ)) (d : List ℕ) → ((i : ℕ) → i < length ws → length (getD ws i d) ≡ k) → (i : ℕ) → i ≤ length ws → before ws i ≡ k * i
 before-even k ws d e i l = omega (arith, before-between k k ws d (λ j h. omega (arith, e j h)) i l)
 
+-- pieces that stand one after another
+pub stands-flatten : {s : List ℕ} {at : ℕ} (ws : List (List ℕ)) → at ≤ length s → ((i : ℕ) → i < length ws → Stands s (at + before ws i) (getD ws i [])) → Stands s at (flatten ws)
+unfolding flatten
+stands-flatten [] l h = stands-none l
+stands-flatten {s} {at} (w ∷ ws) l h = let a : Stands s at w = rw add-zero at (h 0 (omega arith)) in
+    stands-append w (flatten ws) a (stands-flatten ws (a .inside) (λ i k.
+    let z : at + before (w ∷ ws) (suc i) ≡ at + length w + before ws i = omega (arith, length-append w (flatten (take i ws))) in rw z at (h (suc i) (omega arith))))
+
 -- ---- a list read off by number is the list
 pub read-off : {A : Type 0} (d : A) (xs : List A) (n : ℕ) (f : ℕ → A) → n ≡ length xs → ((i : ℕ) → i < n → f i ≡ getD xs i d) → tabulate n f ≡ xs
 read-off d xs n f e h = ext-getD d (tabulate n f) xs (length-tabulate n f ∙ e) (λ i l. let k : i < n = omega (arith, length-tabulate n f) in at-tabulate n f d i k ∙ h i k)
@@ -96,6 +132,15 @@ each-map P f (x ∷ xs) h y m = elim (List·Memᴰ·cases-cons m) [
   | inl e ↦ subst P (sym e) (h x (List·Memᴰ·head refl))
   | inr n ↦ each-map P f xs (λ z k. h z (List·Memᴰ·tail k)) y n
 ]
+
+pub each-value : {A : Type 0} (P : A → Type 0) (n : ℕ) (f : ℕ → A) → ((i : ℕ) → i < n → P (f i)) → (x : A) → x ∈ tabulate n f → P x
+each-value P n f h x m = let t = member-at (tabulate n f) x x m in let l : t .0 < n = omega (arith, t .1, length-tabulate n f) in
+    subst P (sym (at-tabulate n f x (t .0) l) ∙ t .2) (h (t .0) l)
+
+pub map-tabulate : {A B : Type 0} (g : A → B) (n : ℕ) (f : ℕ → A) → map g (tabulate n f) ≡ tabulate n (λ i. g (f i))
+unfolding tabulate
+map-tabulate g zero f = refl
+map-tabulate g (suc n) f = ap (λ xs. g (f 0) ∷ xs) (map-tabulate g n (λ i. f (suc i)))
 
 -- ---- numbers below 256
 abbrev pub Byte : ℕ → Type 0
@@ -127,3 +172,10 @@ small-at {w} h p = elim (decLt p (length w)) [
 
 pub small-all : {w : List ℕ} → ((p : ℕ) → byteAt w p < 256) → Small w
 small-all {w} h b m = let t = member-at w 0 b m in rw (← t .2) (h (t .0))
+
+-- what stands in bytes is bytes
+pub small-in : {s : List ℕ} {at : ℕ} {w : List ℕ} → Small s → Stands s at w → Small w
+small-in {s} {at} {w} h k b m = let t = member-at w 0 b m in rw (← t .2, ← k .same (t .0) (t .1)) (small-at h (at + t .0))
+
+pub small-drop : (n : ℕ) {w : List ℕ} → Small w → Small (drop n w)
+small-drop n {w} h = small-all (λ p. rw (getD-drop n w p 0) (small-at h (n + p)))

@@ -1,21 +1,25 @@
--- The bytes of a step behind its label (01, "Evidence", Closing list; FORMAT 5), and that they are read back.
-use Prim.Native.Nat.{ℕ, _+_, _-_, _^_, _≤_, _<_}
-use mathlib.Core.Path.{_≡_, refl, _∙_, ap}
+-- The bytes of a step behind its label (01, "Evidence", Closing list; FORMAT 5), that they are read back, and that they are written again as they were read.
+use Prim.Native.Nat.{ℕ, zero, suc, _+_, _-_, _^_, _≤_, _<_}
+use mathlib.Core.Path.{_≡_, refl, sym, _∙_, ap, subst}
+use mathlib.Core.Bool.{Bool, true, false, cond, _&&_}
 use mathlib.Core.List.{List, [], _∷_, _++_, map}
-use mathlib.Core.Option.{none, some}
+use mathlib.Core.Option.{none, some, Option·none-ne-some}
 use native.Mathlib.Omega.{arith}
-use borrow.Author.Tests.{le-leb, eq-eqb, ne-eqb}
+use native.Mathlib.Decide.{decLt}
+use borrow.Author.Tests.{le-leb, eq-eqb, ne-eqb, eqb-false}
+use lib.Dec.{eqb, leb}
 use lib.ListN.{length, length-append, length-map}
-use Rattle.logic.specs.Tests.{so-leb}
-use Rattle.logic.specs.Lists.{_∈_, at-member}
+use Rattle.logic.specs.Tests.{so-leb, so-eqb}
+use Rattle.logic.specs.Lists.{_∈_, length-tabulate, at-member}
 use Rattle.logic.specs.Refusals.{unless↔}
+use Rattle.parts.specs.Numbers.{byteAt}
 use Rattle.counting.specs.Trees.{depth}
-use Rattle.description.specs.Literals.{Literal, pos, code, literal, literal-code}
+use Rattle.description.specs.Literals.{Literal, pos, code, literal, literal-code, code-literal}
 use Rattle.refutation.specs.Records.{Cell, unshown, cited, Counting, Step, contradiction, conjunction, disjunction, byRule, caseSplit, counting, FormOk, FormFits}
 use Rattle.refutation.specs.RecordTests.{storedRefutation, whenCounting, formTest, recordForm, form↔}
-use Rattle.list_form.specs.ListForm.{bytesAt, cellOf, countingIn, stepOf, stepIn}
-use Rattle.encoding.specs.Places.{Stands, stands-end, first, second, at-map, Byte, Small, small-none, small-more, small-append, each-map}
-use Rattle.encoding.specs.Trees.{encodeTree, TreeWidth, bytes-back, tree-back, tree-small}
+use Rattle.list_form.specs.ListForm.{Placed, andThen, given, bytesAt, treeIn, mostDepth, treeAt, cellOf, countingIn, sized, stepOf, stepIn}
+use Rattle.encoding.specs.Places.{Stands, stands-end, first, second, stands-none, stands-append, stands-more, stands-whole, at-map, Byte, Small, small-none, small-more, small-append, small-at, each-map, each-value}
+use Rattle.encoding.specs.Trees.{encodeTree, TreeWidth, bytes-back, bytes-again, tree-back, tree-small, and-then, given-there, Again, tree-again}
 
 -- the record that shows a cell empty, or the open mark
 abbrev pub encodeCell : Cell → ℕ
@@ -130,3 +134,90 @@ step-small (counting K) f w = let few = so-leb (length (K .rows)) 6 (counting-fo
     cell-byte : (x : Cell) → CellWidth x → encodeCell x < 256
     cell-byte unshown h = omega arith
     cell-byte (cited j) h = omega arith
+
+-- ---- written again as it was read
+cell-again : (n : ℕ) → encodeCell (cellOf n) ≡ n
+cell-again n = go (eqb n 255) refl
+  where
+    go : (b : Bool) → eqb n 255 ≡ b → encodeCell (cond b unshown (cited n)) ≡ n
+    go true h = sym (so-eqb n 255 h)
+    go false h = refl
+
+cell-width : (n : ℕ) → n < 256 → CellWidth (cellOf n)
+cell-width n l = go (eqb n 255) refl
+  where
+    go : (b : Bool) → eqb n 255 ≡ b → CellWidth (cond b unshown (cited n))
+    go true h = tt
+    go false h = elim (decLt n 255) [ yes k ↦ omega arith | no k ↦ absurd (eqb-false n 255 h (omega arith)) ]
+
+module _ {ds : List ℕ} (b : Small ds) where
+  -- the bytes, and their widths
+  pub record StepAgain (x : Step) : Type 0 where
+    pub same : encodeStep x ≡ ds
+    pub width : StepWidth x
+
+  counting-again : byteAt ds 0 ≡ 6 → (x : Step) → countingIn ds (byteAt ds 1) ≡ some x → StepAgain x
+  unfolding countingIn encodeStep
+  counting-again six x e = go (leb 1 k && (leb k 6 && leb (treeAt k) (length ds))) e
+    where
+      k : ℕ
+      k = byteAt ds 1
+
+      rows : List Literal
+      rows = bytesAt literal ds 2 k
+
+      cells : List Cell
+      cells = bytesAt cellOf ds (2 + k) (2 ^ k - 1)
+
+      rows-many : length rows ≡ k
+      rows-many = length-tabulate k (λ i. literal (byteAt ds (2 + i)))
+
+      cells-many : length cells ≡ 2 ^ k - 1
+      cells-many = length-tabulate (2 ^ k - 1) (λ i. cellOf (byteAt ds (2 + k + i)))
+
+      made : (t : Placed) → Again b (treeAt k) t → t .end ≡ length ds → StepAgain (counting (record { rows = rows; cells = cells; tree = t .tree }))
+      made t a whole =
+          let p = length-map rows code in let q = length-map cells encodeCell in
+          let c : 2 + length (map code rows) ≡ 2 + k = omega (arith, rows-many) in
+          let d : 2 + k + length (map encodeCell cells) ≡ treeAt k = omega (arith, cells-many) in
+          let cells-here : Stands ds (2 + k) (map encodeCell cells) = bytes-again cellOf encodeCell cell-again (2 ^ k - 1) (omega (arith, a .there .inside)) in
+          let rows-here : Stands ds 2 (map code rows) = bytes-again literal code code-literal k (omega (arith, a .there .inside)) in
+          record {
+            same = stands-whole _ (stands-more 6 _ six (stands-more (length rows) _ (sym rows-many)
+                (stands-append (map code rows) _ rows-here (rw c (stands-append (map encodeCell cells) _ cells-here (rw d (a .there)))))))
+                (omega (arith, whole, a .ends, rows-many, cells-many, length-append (map code rows) (map encodeCell cells ++ encodeTree (t .tree)), length-append (map encodeCell cells) (encodeTree (t .tree))));
+            width = record {
+              rows-fit = each-value (λ l. code l < 256) k (λ i. literal (byteAt ds (2 + i))) (λ i h. rw (code-literal (byteAt ds (2 + i))) (small-at b (2 + i)));
+              cells-fit = each-value CellWidth (2 ^ k - 1) (λ i. cellOf (byteAt ds (2 + k + i))) (λ i h. cell-width _ (small-at b (2 + k + i)));
+              tree-fits = a .width;
+            };
+          }
+
+      go : (c : Bool) → cond c (andThen (treeIn ds mostDepth k (treeAt k)) (λ t. given (eqb (t .end) (length ds)) (counting (record { rows = rows; cells = cells; tree = t .tree })))) none ≡ some x → StepAgain x
+      go true q = let t = and-then (treeIn ds mostDepth k (treeAt k)) _ x q in let w = given-there (eqb (t .0 .end) (length ds)) _ x (t .2) in
+          subst StepAgain (w .1) (made (t .0) (tree-again b mostDepth k (treeAt k) (t .0) (t .1)) (so-eqb _ _ (w .0)))
+      go false q = absurd (Option·none-ne-some x q)
+
+  -- a step of n bytes
+  sized-again : (n : ℕ) (y x : Step) → StepWidth y → length (encodeStep y) ≡ n → (length ds ≡ n → Stands ds 0 (encodeStep y)) → sized ds n y ≡ some x → StepAgain x
+  sized-again n y x w l h e = let t = given-there (eqb (length ds) n) y x e in let z = so-eqb (length ds) n (t .0) in
+      subst StepAgain (t .1) (record { same = stands-whole _ (h z) (l ∙ sym z); width = w })
+
+  from-tag : (tag : ℕ) → byteAt ds 0 ≡ tag → (x : Step) → stepOf ds tag ≡ some x → StepAgain x
+  unfolding stepOf encodeStep
+  from-tag zero q x e = absurd (Option·none-ne-some x e)
+  from-tag (suc zero) q x e = sized-again 2 _ x (rw (code-literal (byteAt ds 1)) (small-at b 1)) refl
+      (λ z. stands-more 1 _ q (stands-more _ [] (sym (code-literal (byteAt ds 1))) (stands-none (omega arith)))) e
+  from-tag (suc (suc zero)) q x e = sized-again 3 _ x (small-at b 1, small-at b 2) refl
+      (λ z. stands-more 2 _ q (stands-more _ _ refl (stands-more _ [] refl (stands-none (omega arith))))) e
+  from-tag (suc (suc (suc zero))) q x e = sized-again 4 _ x (small-at b 1, small-at b 2, small-at b 3) refl
+      (λ z. stands-more 3 _ q (stands-more _ _ refl (stands-more _ _ refl (stands-more _ [] refl (stands-none (omega arith)))))) e
+  from-tag (suc (suc (suc (suc zero)))) q x e = sized-again 3 _ x (small-at b 1, small-at b 2) refl
+      (λ z. stands-more 4 _ q (stands-more _ _ refl (stands-more _ [] refl (stands-none (omega arith))))) e
+  from-tag (suc (suc (suc (suc (suc zero))))) q x e = sized-again 4 _ x (small-at b 1, small-at b 2, small-at b 3) refl
+      (λ z. stands-more 5 _ q (stands-more _ _ refl (stands-more _ _ refl (stands-more _ [] refl (stands-none (omega arith)))))) e
+  from-tag (suc (suc (suc (suc (suc (suc zero)))))) q x e = counting-again q x e
+  from-tag (suc (suc (suc (suc (suc (suc (suc m))))))) q x e = absurd (Option·none-ne-some x e)
+
+  pub step-again : (x : Step) → stepIn ds ≡ some x → StepAgain x
+  step-again x e = from-tag (byteAt ds 0) refl x e

@@ -35,3 +35,12 @@ byHalves v = passes (1 ∷ 3 ∷ 0 ∷ v ∷ 0 ∷ 0 ∷ 1 ∷ 1 ∷ 0 ∷ 1 ∷
 halves : (byHalves 0 ≡ false) × (byHalves 1 ≡ true) × (byHalves 2 ≡ true) × (byHalves 3 ≡ false)
 unfolding closingIn treeIn nodeIn treeTest leafTest allBelow tabulate has
 halves = (refl, refl, refl, refl)
+
+-- a split in the second half of another: above the last leaf stand at least 1 and then at least 2, whose multipliers come from the top.
+-- Against 4 times at most 1, once the first and twice the second are 5, and twice the first and once the second are 4; the other leaves close by the rows
+abbrev nested : ℕ → ℕ → Bool
+nested outer inner = passes (1 ∷ 3 ∷ 0 ∷ 0 ∷ 0 ∷ 1 ∷ 1 ∷ 0 ∷ 1 ∷ 3 ∷ 0 ∷ 1 ∷ 0 ∷ 1 ∷ 1 ∷ 0 ∷ 0 ∷ 0 ∷ 4 ∷ 0 ∷ outer ∷ inner ∷ [])
+
+from-the-top : (nested 1 2 ≡ true) × (nested 2 1 ≡ false)
+unfolding closingIn treeIn nodeIn treeTest leafTest allBelow tabulate has
+from-the-top = (refl, refl)
