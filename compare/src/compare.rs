@@ -1,0 +1,112 @@
+//! Holds the library's answers against the paper's and counts them.
+
+use crate::library;
+use compare::paper;
+
+/// Bytes before and after a buffer that the writer must leave alone.
+const GUARD: usize = 64;
+
+#[derive(Default)]
+pub struct Comparison {
+    pub inputs: usize,
+    pub differences: usize,
+    /// How often each word came.
+    pub words: [usize; 6],
+    /// How often each refusal number came.
+    pub refusals: [usize; 24],
+}
+
+impl Comparison {
+    pub fn check(&mut self, description: &[u8], evidence: &[u8]) {
+        let expected = library::code(paper::check(description, evidence));
+        let (d, e) = (self.placed(description), self.placed(evidence));
+        let found = library::check(d.bytes(), e.bytes());
+        if !self.count(expected, found) {
+            tell("check", expected, found, &[description, evidence]);
+        }
+    }
+
+    pub fn read(&mut self, description: &[u8], line: &[u8]) {
+        let expected = library::code(paper::read(description, line));
+        let (d, l) = (self.placed(description), self.placed(line));
+        let found = library::read(d.bytes(), l.bytes());
+        if !self.count(expected, found) {
+            tell("read", expected, found, &[description, line]);
+        }
+    }
+
+    /// Both write into a buffer of `room` bytes amid guard zones; all bytes are compared.
+    pub fn write(&mut self, description: &[u8], evidence: &[u8], room: usize, fill: u8) {
+        let pattern = |i: usize| (i as u8).wrapping_mul(37).wrapping_add(fill);
+        let mut ours: Vec<u8> = (0..room + 2 * GUARD).map(pattern).collect();
+        let mut theirs = ours.clone();
+        let middle = GUARD..GUARD + room;
+        let answer = paper::write(description, evidence, &mut ours[middle.clone()]);
+        let expected = library::code(answer);
+        let (d, e) = (self.placed(description), self.placed(evidence));
+        let found = library::write(d.bytes(), e.bytes(), &mut theirs[middle]);
+        let same = self.count(expected, found);
+        if same && ours == theirs {
+            return;
+        }
+        if same {
+            self.differences += 1;
+            println!("The bytes differ, paper's first, guard zones of {GUARD} bytes included:");
+            println!("{}\n{}", hex(&ours), hex(&theirs));
+        }
+        println!("A buffer of {room} bytes, filled from {fill} on by 37:");
+        tell("write", expected, found, &[description, evidence]);
+    }
+
+    /// A copy of a slice at a place that changes from input to input.
+    fn placed(&self, slice: &[u8]) -> Placed {
+        let before = self.inputs % 8;
+        let mut zone = vec![0xA5; before + slice.len() + 8];
+        zone[before..before + slice.len()].copy_from_slice(slice);
+        Placed {
+            zone,
+            before,
+            length: slice.len(),
+        }
+    }
+
+    /// Counts an input; false if the answers differ.
+    fn count(&mut self, expected: u32, found: u32) -> bool {
+        self.inputs += 1;
+        self.words[(expected >> 16) as usize] += 1;
+        if expected < 65536 {
+            self.refusals[(expected >> 8) as usize] += 1;
+        }
+        let same = expected == found;
+        self.differences += !same as usize;
+        same
+    }
+}
+
+/// A slice amid bytes that do not belong to it, not always at an even address.
+struct Placed {
+    zone: Vec<u8>,
+    before: usize,
+    length: usize,
+}
+
+impl Placed {
+    fn bytes(&self) -> &[u8] {
+        &self.zone[self.before..self.before + self.length]
+    }
+}
+
+fn tell(function: &str, expected: u32, found: u32, slices: &[&[u8]]) {
+    let (expected, found) = (library::told(expected), library::told(found));
+    println!("DIFFERENCE in {function}: paper {expected}, library {found}");
+    for slice in slices {
+        println!("  {}", hex(slice));
+    }
+}
+
+fn hex(bytes: &[u8]) -> String {
+    if bytes.is_empty() {
+        return "-".into();
+    }
+    bytes.iter().map(|b| format!("{b:02x}")).collect()
+}

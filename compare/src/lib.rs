@@ -1,0 +1,7 @@
+//! The paper on SHQ line descriptions, implemented a second time and apart from
+//! the checker, with makers of inputs on which the two are compared.
+
+pub mod encode;
+pub mod make;
+pub mod paper;
+pub mod random;

@@ -1,0 +1,173 @@
+//! Compares the checker's library with the paper's own implementation.
+//!
+//! Arguments: a seed (1 if not given), then a number of inputs (200,000 if not given).
+
+mod compare;
+mod library;
+
+use ::compare::encode;
+use ::compare::make::refutations::Known;
+use ::compare::make::{damage, descriptions, graphs, lines, refutations, spoil_graph, spoil_list};
+use ::compare::paper::description::Description;
+use ::compare::paper::evidence::{Claim, Node};
+use ::compare::paper::label::Label;
+use ::compare::paper::line::{copies, length, Line, MOST_ELEMENTS};
+use ::compare::random::Random;
+use compare::Comparison;
+use std::process::ExitCode;
+
+/// Each refusal must come as often, and each word but REFUSED.
+const LEAST_REFUSALS: usize = 200;
+const LEAST_WORDS: usize = 1000;
+
+fn main() -> ExitCode {
+    let mut arguments = std::env::args().skip(1).map(|a| a.parse::<u64>());
+    let (Ok(seed), Ok(inputs)) = (
+        arguments.next().unwrap_or(Ok(1)),
+        arguments.next().unwrap_or(Ok(200_000)),
+    ) else {
+        eprintln!("arguments: seed, number of inputs");
+        return ExitCode::from(2);
+    };
+    let mut r = Random::new(seed);
+    let mut comparison = Comparison::default();
+    let mut evidence = Vec::new();
+    while comparison.inputs < inputs as usize && comparison.differences < 20 {
+        evidence = round(&mut r, &mut comparison, &evidence);
+    }
+    report(&comparison)
+}
+
+/// One description with evidence, lines and damage to all of them; also with the evidence of
+/// the round before, which was made for another description. Gives its own evidence.
+fn round(r: &mut Random, c: &mut Comparison, before: &[u8]) -> Vec<u8> {
+    let description = descriptions::random(r);
+    let bytes = encode::description(&description);
+    c.check(&bytes, before);
+    let evidence = match graphs::search(r, &description, 6) {
+        Some(nodes) => with_graph(r, c, &description, &bytes, &nodes),
+        None => match refutations::search(r, &description, Known::AsSaid, 4) {
+            Some(claims) => with_list(r, c, &description, &bytes, &claims),
+            None => with_nothing(r, c, &description, &bytes),
+        },
+    };
+    // Lists that rest on an error about cells; most often the description is not empty.
+    for known in [Known::Denied, Known::Reached, Known::Carried] {
+        if let Some(claims) = refutations::search(r, &description, known, 1) {
+            c.check(&bytes, &encode::list(&claims));
+        }
+    }
+    for _ in 0..3 {
+        let line = lines::random(r, &description);
+        c.read(&bytes, &line.bytes());
+    }
+    for _ in 0..6 {
+        let spoiled = damage::description(r, &description);
+        match r.below(6) {
+            0 => {
+                let room = r.below(200);
+                c.write(&spoiled, &evidence, room, r.byte());
+            }
+            1 => c.read(&spoiled, &lines::random(r, &description).bytes()),
+            _ => c.check(&spoiled, &evidence),
+        }
+    }
+    evidence
+}
+
+fn with_graph(
+    r: &mut Random,
+    c: &mut Comparison,
+    description: &Description,
+    bytes: &[u8],
+    nodes: &[Node],
+) -> Vec<u8> {
+    let evidence = encode::graph(nodes);
+    c.check(bytes, &evidence);
+    let elements = nodes.len() * copies(nodes);
+    if elements <= MOST_ELEMENTS {
+        let full = length(elements);
+        let over = full + r.range(1, 40);
+        for room in [full - 1, full, over] {
+            c.write(bytes, &evidence, room, r.byte());
+        }
+        let mut line = Line::unfold(description, nodes);
+        line.close(description);
+        c.read(bytes, &line.bytes());
+        for _ in 0..3 {
+            let near = lines::near(r, description, &line);
+            c.read(bytes, &near.bytes());
+            let spoiled = lines::spoiled(r, description, &line);
+            c.read(bytes, &spoiled);
+        }
+    }
+    for _ in 0..10 {
+        let spoiled = spoil_graph::spoiled(r, description, nodes);
+        c.check(bytes, &spoiled);
+        if r.one_in(2) {
+            let room = r.pick(&[
+                0,
+                1,
+                50,
+                200,
+                length(MOST_ELEMENTS),
+                length(elements.min(64)),
+            ]);
+            c.write(bytes, &spoiled, room, r.byte());
+        }
+    }
+    evidence
+}
+
+fn with_list(
+    r: &mut Random,
+    c: &mut Comparison,
+    description: &Description,
+    bytes: &[u8],
+    claims: &[Claim],
+) -> Vec<u8> {
+    let evidence = encode::list(claims);
+    c.check(bytes, &evidence);
+    if r.one_in(4) {
+        c.write(bytes, &evidence, 100, r.byte());
+    }
+    for _ in 0..16 {
+        let spoiled = spoil_list::spoiled(r, description, claims);
+        c.check(bytes, &spoiled);
+    }
+    evidence
+}
+
+/// No evidence was found: a single node that has the root, most often refused.
+fn with_nothing(
+    r: &mut Random,
+    c: &mut Comparison,
+    description: &Description,
+    bytes: &[u8],
+) -> Vec<u8> {
+    let node = Node {
+        label: Label::of(&[0, description.root]).join(Label::of(&description.rules)),
+        edges: Vec::new(),
+    };
+    let evidence = encode::graph(&[node]);
+    c.check(bytes, &evidence);
+    c.check(bytes, &damage::bytes(r, &evidence));
+    evidence
+}
+
+fn report(c: &Comparison) -> ExitCode {
+    let mut rare = false;
+    for (word, count) in library::WORDS.iter().zip(c.words) {
+        println!("{word:10} {count:7}");
+        rare |= count < LEAST_WORDS;
+    }
+    for (number, count) in c.refusals.iter().enumerate().skip(1) {
+        println!("refusal {number:2} {count:7}");
+        rare |= *count < LEAST_REFUSALS;
+    }
+    if rare {
+        println!("Some answer came too seldom ({LEAST_WORDS} for a word, {LEAST_REFUSALS} for a refusal).");
+    }
+    println!("{} inputs, {} differences", c.inputs, c.differences);
+    ExitCode::from((rare || c.differences > 0) as u8)
+}
