@@ -14,7 +14,7 @@ use Rattle.encoding.specs.Trees.{encodeTree}
 use Rattle.encoding.specs.Steps.{encodeStep}
 use Rattle.encoding.specs.Encoding.{encodeGraph, encodeRecord, encodeRefutation}
 use Rattle.answers.specs.Answers.{REFUSED, INHABITED, EMPTY}
-use Rattle.demands.specs.Trials.{Trial, weighs, Outcome, tells, outcome, told}
+use Rattle.demands.specs.Trials.{Trial, checks, Outcome, tells, outcome, told}
 
 -- records 0 to 2 of both refutations: names A 2, B 4 and C 6 with their complements
 abbrev names : Refutation
@@ -168,10 +168,10 @@ pairs-tree = split 15 0 (leaf (1 ∷ 0 ∷ 1 ∷ 0 ∷ 0 ∷ 1 ∷ 2 ∷ [])) (l
 
 -- ---- the table
 abbrev sampled : List ℕ → Graph → Trial
-sampled d G = weighs d (encodeGraph G)
+sampled d G = checks d (encodeGraph G)
 
 abbrev refuted : List ℕ → Refutation → Trial
-refuted d C = weighs d (encodeRefutation C)
+refuted d C = checks d (encodeRefutation C)
 
 pub others : List (Trial × Outcome)
 unfolding four four-graph four-cells four-list pairs pairs-cells pairs-rows pairs-list pairs-tree

@@ -3,7 +3,7 @@ use Prim.Native.Nat.{ℕ}
 use mathlib.Core.Path.{_≡_, refl}
 use mathlib.Core.List.{List, [], _∷_, map}
 use Rattle.answers.specs.Answers.{REFUSED, EMPTY}
-use Rattle.demands.specs.Trials.{Trial, weighs, Outcome, tells, outcome, told}
+use Rattle.demands.specs.Trials.{Trial, checks, Outcome, tells, outcome, told}
 
 -- names A 2 and B 4; 6 A and B; the root 7, not both; rules 0 and 1, A and B
 named : List ℕ
@@ -35,13 +35,13 @@ refuting second rule other =
 pub steps : List (Trial × Outcome)
 unfolding named refuting
 steps =
-    (weighs named (refuting 1 0 4), tells (told EMPTY 0 0))
+    (checks named (refuting 1 0 4), tells (told EMPTY 0 0))
     -- {2, 3} is within {2, 4, 7} and 3, but not within {2, 4, 7} and 5
-    ∷ (weighs named (refuting 0 0 4), tells (told REFUSED 17 2))
+    ∷ (checks named (refuting 0 0 4), tells (told REFUSED 17 2))
     -- {2, 4, 7} is within {4, 7} and rule 0, but not within {4, 7} and rule 1
-    ∷ (weighs named (refuting 1 1 4), tells (told REFUSED 17 3))
+    ∷ (checks named (refuting 1 1 4), tells (told REFUSED 17 3))
     -- {4, 7} is within {7} and 4, but not within {7} and 5
-    ∷ (weighs named (refuting 1 0 3), tells (told REFUSED 17 5))
+    ∷ (checks named (refuting 1 0 3), tells (told REFUSED 17 5))
     ∷ []
 
 pub steps-hold : map (λ t. outcome (t .0)) steps ≡ map (λ t. t .1) steps

@@ -31,9 +31,9 @@ use Rattle.lists.specs.ListEvidence.{listTests}
 use Rattle.answers.specs.Answers.{Word, REFUSED, INHABITED, EMPTY, WRITTEN, Answer}
 use Rattle.verdict.specs.Verdict.{verdict}
 
--- bytes are weighed, or the line of a graph is written into a buffer
+-- evidence is checked, or the line of a graph is written into a buffer
 pub data Trial : Type 0 where
-  weighs : (description evidence : List ℕ) → Trial
+  checks : (description evidence : List ℕ) → Trial
   writes : (description evidence buffer : List ℕ) → Trial
 
 -- what is told; of the writer also the length that it answers, and the buffer afterwards
@@ -48,7 +48,7 @@ unfolding verdict bytesTest partsTest sizesTest fills fillsFrom descriptionTests
     recordFormTest nodeIn treeIn countingIn stepOf listTests refutationRefusal recordRefusal whenCounting ifCited citeTest stepTest endLabel
     formed depth leafTest treeTest rowsOf bounds known cellRole writeRefused copies maxBelow lineByte joins direct pairs
     literal members adding labelOf refuseFrom allBelow anyBelow each tabulate has nonempty narrow within with setOf
-outcome (weighs d s) = tells (verdict d s)
+outcome (checks d s) = tells (verdict d s)
 outcome (writes d s old) = leaves (writeAnswer d s (length old)) (writeLength d s (length old)) (bufferAfter d s old)
 
 -- as it is printed
@@ -132,20 +132,20 @@ unsimple =
 pub trials : List (Trial × Outcome)
 trials =
     -- P1, P2
-    (weighs (top 0) alone, tells (told INHABITED 0 0))
-    ∷ (weighs (top 1) bottom, tells (told EMPTY 0 0))
+    (checks (top 0) alone, tells (told INHABITED 0 0))
+    ∷ (checks (top 1) bottom, tells (told EMPTY 0 0))
     -- P3; P4, in a buffer of 49 bytes; P5
-    ∷ (weighs (counts 6) (fillers 2), tells (told INHABITED 0 0))
+    ∷ (checks (counts 6) (fillers 2), tells (told INHABITED 0 0))
     ∷ (writes (counts 6) (fillers 2) (replicate 49 165), leaves (told WRITTEN 0 0) 49 written)
-    ∷ (weighs (counts 6) (fillers 1), tells (told REFUSED 15 0))
-    ∷ (weighs (counts 6) (fillers 3), tells (told REFUSED 15 0))
+    ∷ (checks (counts 6) (fillers 1), tells (told REFUSED 15 0))
+    ∷ (checks (counts 6) (fillers 3), tells (told REFUSED 15 0))
     -- P6, P7
-    ∷ (weighs (counts 8) (refuting 1), tells (told EMPTY 0 0))
-    ∷ (weighs (counts 8) (refuting 0), tells (told REFUSED 19 1))
+    ∷ (checks (counts 8) (refuting 1), tells (told EMPTY 0 0))
+    ∷ (checks (counts 8) (refuting 0), tells (told REFUSED 19 1))
     -- P8 and P9, where the evidence is not read; P10
-    ∷ (weighs missing [], tells (told REFUSED 7 0))
-    ∷ (weighs unsimple [], tells (told REFUSED 5 0))
-    ∷ (weighs (top 0) [], tells (told REFUSED 9 0))
+    ∷ (checks missing [], tells (told REFUSED 7 0))
+    ∷ (checks unsimple [], tells (told REFUSED 5 0))
+    ∷ (checks (top 0) [], tells (told REFUSED 9 0))
     ∷ []
 
 pub outcomes : map (λ t. outcome (t .0)) trials ≡ map (λ t. t .1) trials
