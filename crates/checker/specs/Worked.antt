@@ -42,7 +42,7 @@ four m = ofEntries (top ∷ name ∷ name ∷ name ∷ both (lit 4) (lit 6) ∷ 
     ∷ both (lit 15) (lit 17) ∷ both (lit 18) (lit 20) ∷ both (lit 22) (lit 24) ∷ []) 26
 
 -- three fillers: A, B and C; A and B alone; A and C alone
-four-graph : Graph
+unfoldable pub four-graph : Graph
 four-graph =
     node (0 ∷ 15 ∷ 17 ∷ 18 ∷ 20 ∷ 22 ∷ 24 ∷ 26 ∷ []) (edge 1 1 ∷ edge 2 1 ∷ edge 3 1 ∷ [])
     ∷ node (0 ∷ 2 ∷ 4 ∷ 6 ∷ 8 ∷ 10 ∷ 12 ∷ []) []
@@ -51,12 +51,12 @@ four-graph =
     ∷ []
 
 -- the open cells are 1 (B and C), 2 (A), 6 (A and B), 10 (A and C) and 15
-four-cells : List Cell
+unfoldable pub four-cells : List Cell
 four-cells =
     unshown ∷ unshown ∷ cited 7 ∷ cited 3 ∷ cited 3 ∷ unshown ∷ cited 8 ∷ cited 4
     ∷ cited 4 ∷ unshown ∷ cited 7 ∷ cited 3 ∷ cited 3 ∷ cited 11 ∷ unshown ∷ []
 
-four-list : Refutation
+unfoldable pub four-list : Refutation
 four-list =
     names ++ (
     -- 3: A and B without A; A and C without A; B and C without B, without C
@@ -111,22 +111,22 @@ pairs = ofEntries (top ∷ name ∷ name ∷ name
     ∷ atLeast 0 (lit 2) 1 ∷ atLeast 0 (lit 2) 2 ∷ atLeast 0 (lit 4) 1 ∷ atLeast 0 (lit 4) 2 ∷ atLeast 0 (lit 6) 1 ∷ atLeast 0 (lit 6) 2 ∷ []) 0
 
 -- the rows: at least 1 A, at most 1 A; 30 and 33 the same of B; 34 and 37 of C
-pairs-rows : List ℕ
+unfoldable pub pairs-rows : List ℕ
 pairs-rows = 26 ∷ 29 ∷ 30 ∷ 33 ∷ 34 ∷ 37 ∷ []
 
 -- a cell in one of the rows i and i + 1 alone
-oneOf : ℕ → ℕ → Bool
+unfoldable pub oneOf : ℕ → ℕ → Bool
 oneOf c i = cond (has c i) (not (has c (suc i))) (has c (suc i))
 
 -- the cells of A alone, B alone, C alone and all three are empty too; those of two names, 15, 51 and 60, are open
-pairs-cell : ℕ → Cell
+unfoldable pub pairs-cell : ℕ → Cell
 pairs-cell c = cond (oneOf c 0) (cited 0) (cond (oneOf c 2) (cited 1) (cond (oneOf c 4) (cited 2)
     (cond (eqb c 3) (cited 19) (cond (eqb c 12) (cited 21) (cond (eqb c 48) (cited 22) (cond (eqb c 63) (cited 24) unshown))))))
 
-pairs-cells : List Cell
+unfoldable pub pairs-cells : List Cell
 pairs-cells = tabulate 63 (λ i. pairs-cell (suc i))
 
-pairs-list : Tree → Refutation
+unfoldable pub pairs-list : Tree → Refutation
 pairs-list tree =
     names ++ (
     -- 3: two names without one of them
@@ -167,7 +167,7 @@ unfolding pairs pairs-rows pairs-cells pairs-cell pairs-list pairs-wanted oneOf 
 pairs-refusal tree = refutationRefusal storedRefutation pairs pairs-wanted (pairs-list tree)
 
 -- no filler has A and B: then one has A and C and one has B and C, which makes two C. One has: then no other has A or B, and none has C
-pairs-tree : Tree
+unfoldable pub pairs-tree : Tree
 pairs-tree = split 15 0 (leaf (1 ∷ 0 ∷ 1 ∷ 0 ∷ 0 ∷ 1 ∷ 2 ∷ [])) (leaf (0 ∷ 1 ∷ 0 ∷ 1 ∷ 1 ∷ 0 ∷ 2 ∷ []))
 
 pairs-refuted : (descriptionRefusal pairs ≡ none) × (pairs-refusal pairs-tree ≡ none)
