@@ -1,20 +1,22 @@
-//! The implementation alone on the outside vectors, if SHQ_VECTORS names their folder.
+//! The implementation alone on the repository's vectors: those from outside, the trials and the costliest.
 
 use compare::paper::{self, Answer, Refusal};
 use std::path::Path;
 
-fn rows(file: &str, fields: usize) -> Vec<Vec<String>> {
-    let Ok(folder) = std::env::var("SHQ_VECTORS") else {
-        eprintln!("SHQ_VECTORS is not set: {file} is not held against anything");
-        return Vec::new();
-    };
-    let text = std::fs::read_to_string(Path::new(&folder).join(file)).expect(file);
-    let rows: Vec<Vec<String>> = text
-        .lines()
-        .map(|line| line.split('\t').map(String::from).collect())
-        .collect();
-    assert!(!rows.is_empty(), "{file} has no rows");
-    assert!(rows.iter().all(|row| row.len() == fields), "{file}: fields");
+/// The rows of the files of `crates/evidence_vectors/data`; a line that begins with '#' is a remark.
+fn rows(files: &[&str], fields: usize) -> Vec<Vec<String>> {
+    let folder = Path::new(env!("CARGO_MANIFEST_DIR")).join("../crates/evidence_vectors/data");
+    let mut rows = Vec::new();
+    for file in files {
+        let text = std::fs::read_to_string(folder.join(file)).expect(file);
+        let before = rows.len();
+        for line in text.lines().filter(|line| !line.starts_with('#')) {
+            let row: Vec<String> = line.split('\t').map(String::from).collect();
+            assert_eq!(row.len(), fields, "{file}: fields of {line}");
+            rows.push(row);
+        }
+        assert!(before < rows.len(), "{file} has no rows");
+    }
     rows
 }
 
@@ -32,7 +34,15 @@ fn refused(refusal: Refusal) -> String {
 
 #[test]
 fn weigh() {
-    for row in rows("weigh.txt", 2) {
+    let files = [
+        "check",
+        "check_trials",
+        "check_worst",
+        "check_lists",
+        "check_lists_trials",
+        "check_lists_worst",
+    ];
+    for row in rows(&files, 2) {
         let input = bytes(&row[0]);
         // A two-byte length, the description, then evidence; missing bytes leave either short.
         let (length, rest) = match input[..] {
@@ -52,7 +62,7 @@ fn weigh() {
 
 #[test]
 fn write() {
-    for row in rows("write.txt", 4) {
+    for row in rows(&["write", "write_trials", "write_worst"], 4) {
         let room: usize = row[2].parse().expect("a length");
         let pattern: Vec<u8> = (0..room).map(|i| (i * 7 + 3) as u8).collect();
         let mut buffer = pattern.clone();
@@ -74,7 +84,7 @@ fn write() {
 
 #[test]
 fn read() {
-    for row in rows("read.txt", 3) {
+    for row in rows(&["read", "read_trials", "read_worst"], 3) {
         let answer = match paper::read(&bytes(&row[0]), &bytes(&row[1])) {
             Answer::Holds => "HOLDS".into(),
             Answer::Fails => "FAILS".into(),

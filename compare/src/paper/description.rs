@@ -142,7 +142,7 @@ impl Description {
 
 /// 1 to `most` records of `size` bytes, and no byte more.
 fn records_in(part: &[u8], size: usize, most: usize) -> bool {
-    part.len().is_multiple_of(size) && (1..=most).contains(&(part.len() / size))
+    part.len() % size == 0 && (1..=most).contains(&(part.len() / size))
 }
 
 /// 3: the transitive byte is 0 or 1, and no parent bit is past the last role.

@@ -108,7 +108,7 @@ pub fn claims(records: &[&[u8]]) -> Result<Vec<Claim>, Refusal> {
 /// A label and 0 to 32 edges of 5 bytes.
 fn node(bytes: &[u8]) -> Option<Node> {
     let edges = bytes.get(8..)?;
-    if !edges.len().is_multiple_of(5) || edges.len() / 5 > MOST_EDGES {
+    if edges.len() % 5 != 0 || edges.len() / 5 > MOST_EDGES {
         return None;
     }
     let edge = |b: &[u8]| Edge {

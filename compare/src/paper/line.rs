@@ -149,7 +149,7 @@ impl Line {
     pub fn holds(&self, description: &Description) -> bool {
         let truth = self.truth(description);
         let d = self.names.len();
-        let has = |x: usize, l: Literal| truth[l as usize / 2][x] == l.is_multiple_of(2);
+        let has = |x: usize, l: Literal| truth[l as usize / 2][x] == (l % 2 == 0);
         self.keeps_inclusions(description)
             && self.keeps_transitivity(description)
             && (0..d).all(|x| description.rules.iter().all(|&l| has(x, l)))
@@ -181,7 +181,7 @@ impl Line {
         let d = self.names.len();
         let mut truth: Vec<Vec<bool>> = Vec::new();
         for (e, concept) in description.concepts.iter().enumerate() {
-            let has = |x: usize, l: Literal| truth[l as usize / 2][x] == l.is_multiple_of(2);
+            let has = |x: usize, l: Literal| truth[l as usize / 2][x] == (l % 2 == 0);
             let fillers = |role: usize, x: usize| (0..d).filter(move |&y| self.has(role, x, y));
             let holds = |x: usize| match *concept {
                 Concept::Top => true,

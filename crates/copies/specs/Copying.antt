@@ -54,15 +54,6 @@ module _ (es : List ℕ) (y : ℕ) where
   pub count-read : (j c : ℕ) (E : Code.Edge) → E ≡ edgeStruct es j → c ≡ only (eqb (E .target) y) (E .count) → c ≡ countTo es y j
   count-read j c E e p = p ∙ ap (λ (E : Code.Edge). only (eqb (E .target) y) (E .count)) e
 
-  -- one edge more
-  pub total-more : (j n c : ℕ) → n ≡ sumBelow j (countTo es y) → c ≡ countTo es y j → n + c ≡ sumBelow (j + 1) (countTo es y)
-  unfolding sumBelow
-  total-more j n c p q = rw (p, q, add-one j) refl
-
-  pub total-end : (k j n : ℕ) → k ≡ edgeCount es → j ≤ k → k ≤ j → n ≡ sumBelow j (countTo es y) → n ≡ totalTo es y
-  unfolding totalTo
-  total-end k j n e h g p = p ∙ ap (λ i. sumBelow i (countTo es y)) (let z : j ≡ k = omega arith in z ∙ e)
-
   -- from edge i of k: it takes the copy, or c copies are passed, as many as it takes; then none is left
   pub owner-stop : (k i j c m : ℕ) → i < k → c ≡ countTo es y i → m ≡ edgeIn es i .mask → j < c → m ≡ ownerFrom es y (k - i) i j
   unfolding ownerFrom
@@ -90,11 +81,6 @@ module _ (es : List ℕ) (y : ℕ) where
   pub owner-start : (k j : ℕ) → k ≡ edgeCount es → ownerFrom es y (k - 0) 0 j ≡ ownerMask es y j
   unfolding ownerMask
   owner-start k j e = rw (sub-zero, e) refl
-
--- one number more
-pub most-more : (f : ℕ → ℕ) (i n c r : ℕ) → n ≡ maxBelow i f → c ≡ f i → r ≡ max n c → r ≡ maxBelow (i + 1) f
-unfolding maxBelow
-most-more f i n c r p q e = e ∙ rw (p, q, add-one i) refl
 
 module _ (s : List ℕ) (n x : ℕ) where
   -- one record more

@@ -1,6 +1,6 @@
 // Copies of nodes: how many there are of each, and the edge that takes one.
 ghost use mathlib.Core.Path.{_≡_};
-ghost use Prim.Native.Nat.{_*_, _≤_, max};
+ghost use Prim.Native.Nat.{_*_, _≤_, _<_, max};
 ghost use lib.Dec.{eqb};
 ghost use Rattle.logic.specs.Sums.{only, maxBelow};
 ghost use Rattle.copies.specs.Copying.{totalTo, copiesIn, ownerMask};
@@ -22,32 +22,42 @@ fn count_to(target: u8, count: usize, y: u8) -> usize
     if target == y { count } else { 0 }
 }
 
-// The counts of the edges to `y`, added up.
-fn total_to(es: &[u8], y: u8) -> usize
-    ensures { λ r. ⌜ (r ≡ totalTo (now (es .entry)) y) × (r ≤ 32 * 65535) ⌝ }
+// The greater of `most` and `sum`, if that is asked.
+fn greater_if(most: u32, sum: u32, asked: bool) -> u32
+    ensures { λ r. ⌜ r ≡ max most (only asked sum) ⌝ }
 {
-    let k = edge_count(es);
-    let mut sum: usize = 0;
-    let mut j: u8 = 0;
-    while j < k {
-        let e = edge_at(es, j);
-        sum += count_to(e.target, e.count, y);
-        j += 1;
+    if asked {
+        if most < sum { sum } else { most }
+    } else {
+        most
     }
-    sum
 }
 
-// The greatest total of the edges to one of `n` records.
+// A count as a word.
+fn word_of(n: usize) -> u32
+    requires { ⌜ n < 65536 ⌝ }
+    ensures { λ r. ⌜ r ≡ n ⌝ }
+{
+    (n % 65536) as u32
+}
+
+// The greatest total of the edges to one of `n` records, the totals to all targets added up in one pass.
 fn most_to(es: &[u8], n: u8) -> usize
     ensures { λ r. ⌜ (r ≡ maxBelow n (totalTo (now (es .entry)))) × (r ≤ 32 * 65535) ⌝ }
 {
-    let mut most: usize = 0;
-    let mut y: u8 = 0;
-    while y < n {
-        most = greater(most, total_to(es, y));
-        y += 1;
+    let k = edge_count(es);
+    let mut totals: [u32; 256] = [0; 256];
+    let mut most: u32 = 0;
+    let mut j: u8 = 0;
+    while j < k {
+        let e = edge_at(es, j);
+        let y = e.target as usize;
+        let sum = totals[y] + word_of(e.count);
+        totals[y] = sum;
+        most = greater_if(most, sum, e.target < n);
+        j += 1;
     }
-    most
+    most as usize
 }
 
 // K: the greatest total of counts from one of the `n` records to one of them, at least 1.

@@ -1,16 +1,18 @@
 -- Rule 13 of a graph's edges as the code tests it, on masks.
 use Prim.Native.Nat.{ℕ, _+_, _*_, _/_, _≤_, _<_}
-use mathlib.Core.Path.{_≡_, refl, _∙_, ap}
-use mathlib.Core.Bool.{Bool, _&&_}
+use mathlib.Core.Path.{_≡_, refl, sym, _∙_, ap}
+use mathlib.Core.Bool.{Bool, true, false, _&&_}
 use mathlib.Core.List.{List}
 use native.Mathlib.Omega.{arith}
-use lib.Dec.{leb, ltb}
+use lib.Bits.{bitAnd}
+use lib.Dec.{eqb, leb, ltb}
 use lib.ListN.{length, getD}
-use Rattle.logic.specs.Tests.{So, _⇒_, same-test, imp-in, imp-out}
-use Rattle.logic.specs.Bounded.{allBelow, all-cong, all-intro, all-elim}
+use Rattle.logic.specs.Tests.{So, _⇒_, same-test, so-and, and-l, and-r, imp-in, imp-out}
+use Rattle.logic.specs.Bounded.{allBelow, all-cong, all-intro, all-elim, any-intro, any-elim}
 use Rattle.logic.specs.Lists.{each, each-tabulate}
+use Rattle.logic.specs.Sums.{only}
 use Rattle.logic.specs.Sets.{has, nonempty, narrow, within}
-use Rattle.logic.specs.SetLaws.{within↔, setOf↔}
+use Rattle.logic.specs.SetLaws.{narrow↔, within↔, setOf↔}
 use Rattle.parts.specs.Numbers.{byteAt, num2, upTo, up-to-all}
 use Rattle.description.specs.Descriptions.{Description}
 use Rattle.description.specs.Roles.{ancestor}
@@ -20,6 +22,7 @@ use Rattle.graph.specs.Graphs.{Edge}
 use Rattle.graph.specs.GraphTests.{storedGraph, edgeTest}
 use Rattle.evidence.specs.Evidence.{mostEdges, edgeIn, edgesIn}
 use Rattle.edges.specs.declared.Edge as Code
+use Rattle.edges.specs.Unions.{unionBelow, has-union, has-only}
 
 -- the number of edges of the bytes es, at most 32
 abbrev pub edgeCount : List ℕ → ℕ
@@ -68,7 +71,33 @@ module _ (rs cs qs a : List ℕ) (anc : AncestorsOf rs a) (few : length rs / 3 �
       → edgesCode a (length rs / 3) size es ≡ each (edgesIn es) (edgeTest storedGraph D size)
   edges-are inside size es short = ap (λ k. allBelow k (λ j. edgeCode a (length rs / 3) size (edgeStruct es j))) (up-to-all mostEdges (length es / 5) short) ∙ all-cong (length es / 5) _ _ (λ j _. edge-is inside size es j) ∙ each-tabulate (length es / 5) (edgeIn es) (edgeTest storedGraph D size)
 
--- ---- a law for the code
+-- ---- laws for the code
 pub edges-read : (es a : List ℕ) (roles size k n : ℕ) → k ≡ edgeCount es → n ≡ upTo 16 roles
     → allBelow k (λ j. edgeCode a n size (edgeStruct es j)) ≡ edgesCode a (upTo 16 roles) size es
 edges-read es a roles size k n p q = rw (p, q) refl
+
+-- all ancestors of the roles of the mask m
+abbrev pub raised : List ℕ → ℕ → ℕ
+raised a m = unionBelow 16 (λ r. only (has m r) (getD a r 0))
+
+-- they lie in the mask exactly if each of its roles brings its ancestors
+raised-is : (a : List ℕ) (m n : ℕ) → n ≤ 16 → So (narrow m n) → within (raised a m) m ≡ allBelow n (upwardAt a m)
+raised-is a m n h g = same-test _ _
+    (λ u. all-intro n (upwardAt a m) (λ r l. imp-in _ _ (λ v. within↔ (getD a r 0) m .1 (λ i w. within↔ (raised a m) m .0 u i
+    (has-union 16 (λ r. only (has m r) (getD a r 0)) i ∙ any-intro 16 (λ r. has (only (has m r) (getD a r 0)) i) r (omega arith) (has-only (has m r) (getD a r 0) i ∙ so-and (has m r) (has (getD a r 0) i) v w))))))
+    (λ u. within↔ (raised a m) m .1 (λ i v. let w = any-elim 16 (λ r. has (only (has m r) (getD a r 0)) i) (sym (has-union 16 (λ r. only (has m r) (getD a r 0)) i) ∙ v) in
+    let r = w .0 in let k = sym (has-only (has m r) (getD a r 0) i) ∙ w .2 in let p = and-l (has m r) (has (getD a r 0) i) k in
+    within↔ (getD a r 0) m .0 (imp-out _ _ (all-elim n (upwardAt a m) u r (narrow↔ m n .0 g r p)) p) i (and-r (has m r) (has (getD a r 0) i) k)))
+
+pub edge-read : (a : List ℕ) (n size : ℕ) (E : Code.Edge) (p q : Bool) → n ≤ 16 → p ≡ narrow (E .mask) n → q ≡ within (raised a (E .mask)) (E .mask)
+    → ((ltb (E .target) size && (nonempty (E .mask) && (p && (q && leb 1 (E .count))))) && leb (E .count) 1000) ≡ edgeCode a n size E
+edge-read a n size E p q h hp hq = rw (hp, hq) (ap (λ b. (ltb (E .target) size && (nonempty (E .mask) && b)) && leb (E .count) 1000) (go (narrow (E .mask) n) refl))
+  where
+    go : (b : Bool) → narrow (E .mask) n ≡ b → (b && (within (raised a (E .mask)) (E .mask) && leb 1 (E .count))) ≡ (b && (allBelow n (upwardAt a (E .mask)) && leb 1 (E .count)))
+    go true z = ap (λ b. b && leb 1 (E .count)) (raised-is a (E .mask) n h z)
+    go false z = refl
+
+-- a set within another, as the code tests it
+pub within-read : (x y m : ℕ) → x ≡ y → eqb (bitAnd x m) x ≡ within y m
+unfolding within
+within-read x y m e = rw e refl

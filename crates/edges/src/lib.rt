@@ -1,12 +1,11 @@
 // Rule 13: the edges behind a record's label.
 ghost use mathlib.Core.Path.{_≡_};
 ghost use Prim.Native.Nat.{_*_, _/_, _<_, _≤_};
-ghost use lib.ListN.{length, getD};
-ghost use Rattle.logic.specs.Tests.{_⇒_};
 ghost use Rattle.logic.specs.Bounded.{allBelow};
 ghost use Rattle.logic.specs.Sets.{has, narrow, within};
+ghost use Rattle.logic.specs.Sums.{only};
 ghost use Rattle.parts.specs.Numbers.{upTo};
-ghost use Rattle.edges.specs.EdgeSteps.{edgeCount, edgeStruct, upwardAt, edgeCode, edgesCode};
+ghost use Rattle.edges.specs.EdgeSteps.{edgeCount, edgeStruct, raised, edgeCode, edgesCode};
 use parts::byte;
 use parts::mask2;
 use parts::read2;
@@ -28,41 +27,50 @@ pub fn edge_count(es: &[u8]) -> u8
 }
 
 // Edge `j`; bytes past the end count as 0.
+fn cut_edge(es: &[u8], j: u8) -> Edge
+    ensures { λ r. ⌜ (r ≡ edgeStruct (now (es .entry)) j) × (r .count < 65536) ⌝ }
+{
+    let from = 5 * (j as usize);
+    Edge {
+        target: byte(es, from),
+        mask: mask2(es, from + 1),
+        count: read2(es, from + 3),
+    }
+}
+
+// The same, with one comparison for the five bytes of an edge that is all there: every rule of a graph reads edges.
 pub fn edge_at(es: &[u8], j: u8) -> Edge
     ensures { λ r. ⌜ (r ≡ edgeStruct (now (es .entry)) j) × (r .count < 65536) ⌝ }
 {
     let at = 5 * (j as usize);
+    if es.len() < at + 5 {
+        return cut_edge(es, j);
+    }
     Edge {
-        target: byte(es, at),
+        target: es[at],
         mask: mask2(es, at + 1),
         count: read2(es, at + 3),
     }
 }
 
-// Whether the mask `m` holds the ancestors `above` of role `r`, if it holds `r`.
-fn upward_at(above: u16, m: u16, r: u8) -> bool
-    ensures { λ q. ⌜ q ≡ (has m r ⇒ within above m) ⌝ }
+// The ancestors `above` of role `r`, if the mask `m` holds `r`.
+fn above_if(above: u16, m: u16, r: u8) -> u16
+    ensures { λ q. ⌜ q ≡ only (has m r) above ⌝ }
 {
-    if has16(m, r) {
-        above & m == above
-    } else {
-        true
-    }
+    if has16(m, r) { above } else { 0 }
 }
 
-// Whether the mask holds with each of the `n` roles its ancestors.
-fn upward(a: [u16; 16], m: u16, n: u8) -> bool
-    requires { ⌜ n ≤ 16 ⌝ }
-    ensures { λ q. ⌜ q ≡ allBelow n (upwardAt a m) ⌝ }
+// Whether the mask holds with each of its roles the ancestors.
+fn upward(a: [u16; 16], m: u16) -> bool
+    ensures { λ q. ⌜ q ≡ within (raised a m) m ⌝ }
 {
+    let mut up: u16 = 0;
     let mut r: u8 = 0;
-    while r < n {
-        if !upward_at(a[r as usize], m, r) {
-            return false;
-        }
+    while r < 16 {
+        up = up | above_if(a[r as usize], m, r);
         r += 1;
     }
-    true
+    up & m == up
 }
 
 // Rule 13 of one edge, in a table of `n` roles and a graph of `size` records; `a` holds the ancestors of each role.
@@ -71,7 +79,7 @@ fn edge_ok(e: Edge, a: [u16; 16], n: u8, size: u8) -> bool
     ensures { λ q. ⌜ q ≡ edgeCode a n size e ⌝ }
 {
     let narrow = fits16(e.mask, n as usize);
-    let up = upward(a, e.mask, n);
+    let up = upward(a, e.mask);
     ((e.target < size) & ((0 < e.mask) & (narrow & (up & (1 <= e.count))))) & (e.count <= 1000)
 }
 

@@ -2,11 +2,9 @@
 ghost use mathlib.Core.Path.{_≡_};
 ghost use mathlib.Core.Option.{none};
 ghost use Rattle.logic.specs.Refusals.{unless};
-ghost use Rattle.logic.specs.Sets.{has};
 ghost use Rattle.labels.specs.Labels.{valueOf};
 ghost use Rattle.evidence.specs.Evidence.{headTest, headOf, headRefusal, nodeFormTest, labelOf, edgesPart};
 use labels::Label;
-use labels::holds_at;
 use labels::load;
 use parts::byte;
 use parts::pairs_fill;
@@ -59,13 +57,6 @@ pub fn record_label(s: &[u8], i: u8) -> Label
     ensures { λ r. ⌜ valueOf r ≡ labelOf (now (s .entry)) i ⌝ }
 {
     load(s, read2(s, 2 + 4 * (i as usize)))
-}
-
-// Whether the label of record `i` holds the literal `l`.
-pub fn record_holds(s: &[u8], i: u8, l: u8) -> bool
-    ensures { λ r. ⌜ r ≡ has (labelOf (now (s .entry)) i) l ⌝ }
-{
-    holds_at(s, read2(s, 2 + 4 * (i as usize)), l)
 }
 
 // The bytes behind the label of record `i`; none if it has no label or does not lie in the evidence.

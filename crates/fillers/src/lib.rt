@@ -1,21 +1,26 @@
 // Rules 14 and 15 of a graph's record: what "every" and "at least" ask of the fillers that its edges give.
+mod targets;
+
 ghost use mathlib.Core.Path.{_≡_};
-ghost use mathlib.Core.Bool.{_&&_};
-ghost use Prim.Native.Nat.{_*_, _<_, _≤_};
+ghost use mathlib.Core.Bool.{cond, _&&_};
+ghost use mathlib.Core.List.{List};
+ghost use mathlib.Core.Option.{none};
+ghost use Prim.Native.Nat.{ℕ, _*_, _<_};
 ghost use lib.Dec.{leb, ltb};
 ghost use Rattle.logic.specs.Tests.{_⇒_};
+ghost use Rattle.logic.specs.Refusals.{unless, refuse};
 ghost use Rattle.logic.specs.Sets.{has};
-ghost use Rattle.labels.specs.Labels.{valueOf};
+ghost use Rattle.labels.specs.Labels.{valueOf, labelWith};
 ghost use Rattle.tables.specs.Tables.{fieldsAt};
-ghost use Rattle.edges.specs.EdgeSteps.{edgeStruct};
-ghost use Rattle.fillers.specs.FillerSteps.{leads, keeps, decides, share, allHave, someHas, allDecide, fillers};
-ghost use Rattle.fillers.specs.FillerSteps.{everyAbove, hasAbove, carried, everyHolds, everyAt, everysCode, leastHolds, leastAt, countsCode};
-use edges::Edge;
-use edges::edge_at;
-use edges::edge_count;
-use evidence::record_holds;
+ghost use Rattle.answers.specs.Answers.{refusalOf};
+ghost use Rattle.fillers.specs.FillerSteps.{allHave, someHas, allDecide, fillers};
+ghost use Rattle.fillers.specs.FillerSteps.{everyAbove, hasAbove, carried, everyHolds, leastHolds, leastAt, countsCode};
+ghost use Rattle.fillers.specs.Gathered.{Gathered, Counted};
+ghost use Rattle.fillers.specs.Sources.{sourcesAbove, sourcesOf, SourcesOf, everyWith, everysWith};
+use answers::Tested;
 use labels::Label;
 use labels::holds;
+use labels::put;
 use nodes::entry_count;
 use nodes::opposite;
 use parts::byte;
@@ -26,105 +31,21 @@ use tables::EntryNo;
 use tables::RoleNo;
 use tables::concept_at;
 use tables::fields_at;
+use targets::all_decided;
+use targets::all_fillers_have;
+use targets::all_fillers_have_both;
+use targets::count_fillers;
+use targets::meets;
+use targets::some_filler_has;
+use targets::targets_of;
 
-// Whether the edge is of role `r` and leads to a label with `l`.
-fn leads_to(s: &[u8], e: Edge, r: RoleNo, l: u8) -> bool
-    ensures { λ q. ⌜ q ≡ leads (now (s .entry)) (r .0) l e ⌝ }
+// Whether entry `f` is an "every q l" with `q` in the mask `above`.
+fn is_above(cs: &[u8], above: u16, l: u8, f: EntryNo) -> bool
+    ensures { λ q. ⌜ q ≡ everyAbove above l (fieldsAt (now (cs .entry)) (f .0)) ⌝ }
 {
-    if has16(e.mask, r.0) {
-        record_holds(s, e.target, l)
-    } else {
-        false
-    }
-}
-
-// Whether edge `j` leads to a label with `l`, if it is of role `r`.
-fn keeps_at(s: &[u8], es: &[u8], j: u8, r: RoleNo, l: u8) -> bool
-    ensures { λ q. ⌜ q ≡ keeps (now (s .entry)) (r .0) l (edgeStruct (now (es .entry)) j) ⌝ }
-{
-    let e = edge_at(es, j);
-    let asked = has16(e.mask, r.0);
-    let found = leads_to(s, e, r, l);
-    !asked | found
-}
-
-// Whether edge `j` leads to a label with `l` or the opposite, if it is of role `r`.
-fn decides_at(s: &[u8], es: &[u8], j: u8, r: RoleNo, l: u8) -> bool
-    ensures { λ q. ⌜ q ≡ decides (now (s .entry)) (r .0) l (edgeStruct (now (es .entry)) j) ⌝ }
-{
-    let e = edge_at(es, j);
-    let asked = has16(e.mask, r.0);
-    let with = leads_to(s, e, r, l);
-    let against = opposite(l);
-    let without = leads_to(s, e, r, against);
-    !asked | (with | without)
-}
-
-// The count of edge `j`, or 0 if it does not lead by `r` to a label with `l`.
-fn share_at(s: &[u8], es: &[u8], j: u8, r: RoleNo, l: u8) -> usize
-    ensures { λ q. ⌜ (q ≡ share (now (s .entry)) (r .0) l (edgeStruct (now (es .entry)) j)) × (q < 65536) ⌝ }
-{
-    let e = edge_at(es, j);
-    if leads_to(s, e, r, l) { e.count } else { 0 }
-}
-
-// Whether each edge of role `r` leads to a label with `l`.
-fn all_fillers_have(s: &[u8], es: &[u8], r: RoleNo, l: u8) -> bool
-    ensures { λ q. ⌜ q ≡ allHave (now (s .entry)) (now (es .entry)) (r .0) l ⌝ }
-{
-    let k = edge_count(es);
-    let mut j: u8 = 0;
-    while j < k {
-        if !keeps_at(s, es, j, r, l) {
-            return false;
-        }
-        j += 1;
-    }
-    true
-}
-
-// Whether some edge of role `r` leads to a label with `l`.
-fn some_filler_has(s: &[u8], es: &[u8], r: RoleNo, l: u8) -> bool
-    ensures { λ q. ⌜ q ≡ someHas (now (s .entry)) (now (es .entry)) (r .0) l ⌝ }
-{
-    let k = edge_count(es);
-    let mut j: u8 = 0;
-    while j < k {
-        if leads_to(s, edge_at(es, j), r, l) {
-            return true;
-        }
-        j += 1;
-    }
-    false
-}
-
-// Whether each edge of role `r` leads to a label with `l` or the opposite.
-fn all_decided(s: &[u8], es: &[u8], r: RoleNo, l: u8) -> bool
-    ensures { λ q. ⌜ q ≡ allDecide (now (s .entry)) (now (es .entry)) (r .0) l ⌝ }
-{
-    let k = edge_count(es);
-    let mut j: u8 = 0;
-    while j < k {
-        if !decides_at(s, es, j, r, l) {
-            return false;
-        }
-        j += 1;
-    }
-    true
-}
-
-// How many fillers with `l` the edges of role `r` give.
-fn count_fillers(s: &[u8], es: &[u8], r: RoleNo, l: u8) -> usize
-    ensures { λ q. ⌜ q ≡ fillers (now (s .entry)) (now (es .entry)) (r .0) l ⌝ }
-{
-    let k = edge_count(es);
-    let mut sum: usize = 0;
-    let mut j: u8 = 0;
-    while j < k {
-        sum += share_at(s, es, j, r, l);
-        j += 1;
-    }
-    sum
+    let g = fields_at(cs, f);
+    let higher = has16(above, g.role);
+    (g.kind == 3) & ((g.first == l) & higher)
 }
 
 // Whether the label holds entry `f` and that is an "every q l" with `q` in the mask `above`.
@@ -132,10 +53,7 @@ fn has_above_at(cs: &[u8], x: Label, above: u16, l: u8, f: EntryNo) -> bool
     requires { ⌜ f .0 < 32 ⌝ }
     ensures { λ q. ⌜ q ≡ (has (valueOf x) (2 * f .0) && everyAbove above l (fieldsAt (now (cs .entry)) (f .0))) ⌝ }
 {
-    let g = fields_at(cs, f);
-    let held = holds(x, 2 * f.0);
-    let higher = has16(above, g.role);
-    held & ((g.kind == 3) & ((g.first == l) & higher))
+    holds(x, 2 * f.0) & is_above(cs, above, l, f)
 }
 
 // Whether the label holds such an entry.
@@ -165,48 +83,166 @@ pub fn is_carried(rs: &[u8], cs: &[u8], a: [u16; 16], x: Label, r: RoleNo, l: u8
     }
 }
 
+// The label with entry `f`, if that is an "every q l" with `q` in the mask `above`.
+fn with_source(x: Label, cs: &[u8], above: u16, l: u8, f: EntryNo) -> Label
+    requires { ⌜ f .0 < 32 ⌝ }
+    ensures { λ q. ⌜ valueOf q ≡ cond (everyAbove above l (fieldsAt (now (cs .entry)) (f .0))) (labelWith (valueOf x) (2 * f .0)) (valueOf x) ⌝ }
+{
+    if is_above(cs, above, l, f) {
+        put(x, 2 * f.0)
+    } else {
+        x
+    }
+}
+
+// The entries "every q l" with `q` in the mask `above`.
+fn sources_above(cs: &[u8], above: u16, l: u8) -> Label
+    ensures { λ q. ⌜ valueOf q ≡ sourcesAbove (now (cs .entry)) above l ⌝ }
+{
+    let n = entry_count(cs);
+    let mut out = Label { high: 0, low: 0 };
+    let mut f: u8 = 0;
+    while f < n {
+        out = with_source(out, cs, above, l, EntryNo(f));
+        f += 1;
+    }
+    out
+}
+
+// The sources of entry `e`: none if it is no "every" or its role is not transitive.
+fn sources_at(rs: &[u8], cs: &[u8], a: [u16; 16], e: EntryNo) -> Label
+    ensures { λ q. ⌜ valueOf q ≡ sourcesOf (now (rs .entry)) (now (cs .entry)) a (fieldsAt (now (cs .entry)) (e .0)) ⌝ }
+{
+    let g = fields_at(cs, e);
+    let role = g.role as usize;
+    let transitive = byte(rs, 3 * role);
+    if (g.kind == 3) & (transitive == 1) {
+        sources_above(cs, a[role % 16], g.first)
+    } else {
+        Label { high: 0, low: 0 }
+    }
+}
+
+// For each entry "every r l" with `r` transitive, the entries whose presence in a label makes the edges of role `r` carry it on.
+pub fn sources(rs: &[u8], cs: &[u8], a: [u16; 16]) -> [Label; 32]
+    ensures { λ q. ⌜ SourcesOf (now (rs .entry)) (now (cs .entry)) a q ⌝ }
+{
+    let n = entry_count(cs);
+    let none = Label { high: 0, low: 0 };
+    let mut out = [none; 32];
+    let mut e: u8 = 0;
+    while e < n {
+        out[e as usize] = sources_at(rs, cs, a, EntryNo(e));
+        e += 1;
+    }
+    out
+}
+
 // Whether each edge of role `r` leads to a label with `l`, if that is asked.
-fn all_if(asked: bool, s: &[u8], es: &[u8], r: RoleNo, l: u8) -> bool
-    ensures { λ q. ⌜ q ≡ (asked ⇒ allHave (now (s .entry)) (now (es .entry)) (r .0) l) ⌝ }
+fn all_if(
+    asked: bool,
+    masks: &[u32; 32],
+    highs: &[u32; 32],
+    lows: &[u32; 32],
+    r: RoleNo,
+    l: u8,
+) -> bool
+    ensures { λ q. ⌜ ((s es : List ℕ) → Gathered s es (now (masks .entry)) (now (highs .entry)) (now (lows .entry)) → q ≡ (asked ⇒ allHave s es (r .0) l)) ⌝ }
 {
     if asked {
-        all_fillers_have(s, es, r, l)
+        all_fillers_have(masks, highs, lows, r, l)
     } else {
         true
     }
 }
 
+// Whether each edge of role `r` leads to a label with `l`, if `held`, and with `m`, if `on`: in one pass if both are asked.
+fn both_if(
+    held: bool,
+    on: bool,
+    masks: &[u32; 32],
+    highs: &[u32; 32],
+    lows: &[u32; 32],
+    r: RoleNo,
+    l: u8,
+    m: u8,
+) -> bool
+    requires { ⌜ m < 64 ⌝ }
+    ensures { λ q. ⌜ ((s es : List ℕ) → Gathered s es (now (masks .entry)) (now (highs .entry)) (now (lows .entry)) → q ≡ ((held ⇒ allHave s es (r .0) l) && (on ⇒ allHave s es (r .0) m))) ⌝ }
+{
+    if held & on {
+        if l < 64 {
+            return all_fillers_have_both(masks, highs, lows, r, l, m);
+        }
+    }
+    let kept = all_if(held, masks, highs, lows, r, l);
+    let passed = all_if(on, masks, highs, lows, r, m);
+    kept & passed
+}
+
 // Whether some edge of role `r` leads to a label with `l`, if that is asked.
-fn some_if(asked: bool, s: &[u8], es: &[u8], r: RoleNo, l: u8) -> bool
-    ensures { λ q. ⌜ q ≡ (asked ⇒ someHas (now (s .entry)) (now (es .entry)) (r .0) l) ⌝ }
+fn some_if(
+    asked: bool,
+    masks: &[u32; 32],
+    highs: &[u32; 32],
+    lows: &[u32; 32],
+    r: RoleNo,
+    l: u8,
+) -> bool
+    ensures { λ q. ⌜ ((s es : List ℕ) → Gathered s es (now (masks .entry)) (now (highs .entry)) (now (lows .entry)) → q ≡ (asked ⇒ someHas s es (r .0) l)) ⌝ }
 {
     if asked {
-        some_filler_has(s, es, r, l)
+        some_filler_has(masks, highs, lows, r, l)
     } else {
         true
     }
 }
 
 // Rule 14 of "every r l", entry `e`; `on` says that the edges of role `r` carry it on.
-fn every_holds(s: &[u8], es: &[u8], x: Label, on: bool, e: EntryNo, r: RoleNo, l: u8) -> bool
+fn every_holds(
+    masks: &[u32; 32],
+    highs: &[u32; 32],
+    lows: &[u32; 32],
+    x: Label,
+    on: bool,
+    e: EntryNo,
+    r: RoleNo,
+    l: u8,
+) -> bool
     requires { ⌜ e .0 < 32 ⌝ }
-    ensures { λ q. ⌜ q ≡ everyHolds (now (s .entry)) (now (es .entry)) (valueOf x) on (e .0) (r .0) l ⌝ }
+    ensures { λ q. ⌜ ((s es : List ℕ) → Gathered s es (now (masks .entry)) (now (highs .entry)) (now (lows .entry)) → q ≡ everyHolds s es (valueOf x) on (e .0) (r .0) l) ⌝ }
 {
-    let kept = all_if(holds(x, 2 * e.0), s, es, r, l);
-    let passed = all_if(on, s, es, r, 2 * e.0);
+    let kept = both_if(holds(x, 2 * e.0), on, masks, highs, lows, r, l, 2 * e.0);
     let against = opposite(l);
-    let broken = some_if(holds(x, 2 * e.0 + 1), s, es, r, against);
-    kept & (passed & broken)
+    let broken = some_if(holds(x, 2 * e.0 + 1), masks, highs, lows, r, against);
+    kept & broken
 }
 
-// Rule 14 of one entry.
-fn every_at(rs: &[u8], cs: &[u8], s: &[u8], a: [u16; 16], x: Label, es: &[u8], e: EntryNo) -> bool
+// Rule 14 of one entry, whose sources are `from`.
+fn every_at(
+    cs: &[u8],
+    from: Label,
+    x: Label,
+    masks: &[u32; 32],
+    highs: &[u32; 32],
+    lows: &[u32; 32],
+    e: EntryNo,
+) -> bool
     requires { ⌜ e .0 < 32 ⌝ }
-    ensures { λ q. ⌜ q ≡ everyAt (now (rs .entry)) (now (cs .entry)) (now (s .entry)) a (valueOf x) (now (es .entry)) (e .0) ⌝ }
+    ensures { λ q. ⌜ ((s es : List ℕ) → Gathered s es (now (masks .entry)) (now (highs .entry)) (now (lows .entry)) → q ≡ everyWith (now (cs .entry)) s (valueOf from) (valueOf x) es (e .0)) ⌝ }
 {
     let c = concept_at(cs, e);
     match c {
-        Concept::Every(r, l) => every_holds(s, es, x, is_carried(rs, cs, a, x, r, l), e, r, l),
+        Concept::Every(r, l) => every_holds(
+            masks,
+            highs,
+            lows,
+            x,
+            meets(x.high, x.low, from),
+            e,
+            r,
+            l,
+        ),
         Concept::Top => true,
         Concept::Name => true,
         Concept::Both(_, _) => true,
@@ -214,14 +250,22 @@ fn every_at(rs: &[u8], cs: &[u8], s: &[u8], a: [u16; 16], x: Label, es: &[u8], e
     }
 }
 
-// Rule 14 of a record with the label `x` and the edges `es`, in the evidence `s`; `a` holds the ancestors of each role.
-pub fn everys_ok(rs: &[u8], cs: &[u8], s: &[u8], a: [u16; 16], x: Label, es: &[u8]) -> bool
-    ensures { λ r. ⌜ r ≡ everysCode (now (rs .entry)) (now (cs .entry)) (now (s .entry)) a (valueOf x) (now (es .entry)) ⌝ }
+// Rule 14 of a record with the label `x`, with the table of sources.
+fn everys_ok(
+    cs: &[u8],
+    src: [Label; 32],
+    x: Label,
+    masks: &[u32; 32],
+    highs: &[u32; 32],
+    lows: &[u32; 32],
+) -> bool
+    ensures { λ q. ⌜ ((s es : List ℕ) → Gathered s es (now (masks .entry)) (now (highs .entry)) (now (lows .entry)) → q ≡ everysWith (now (cs .entry)) s src (valueOf x) es) ⌝ }
 {
     let n = entry_count(cs);
     let mut e: u8 = 0;
     while e < n {
-        if !every_at(rs, cs, s, a, x, es, EntryNo(e)) {
+        let from = src[e as usize];
+        if !every_at(cs, from, x, masks, highs, lows, EntryNo(e)) {
             return false;
         }
         e += 1;
@@ -230,23 +274,37 @@ pub fn everys_ok(rs: &[u8], cs: &[u8], s: &[u8], a: [u16; 16], x: Label, es: &[u
 }
 
 // Whether the fillers reach the number, if that is asked.
-fn reached_if(asked: bool, s: &[u8], es: &[u8], m: Count) -> bool
-    ensures { λ q. ⌜ q ≡ (asked ⇒ leb (m .bound) (fillers (now (s .entry)) (now (es .entry)) (m .role .0) (m .literal))) ⌝ }
+fn reached_if(
+    asked: bool,
+    masks: &[u32; 32],
+    counts: &[u16; 32],
+    highs: &[u32; 32],
+    lows: &[u32; 32],
+    m: Count,
+) -> bool
+    ensures { λ q. ⌜ ((s es : List ℕ) → Gathered s es (now (masks .entry)) (now (highs .entry)) (now (lows .entry)) → Counted es (now (counts .entry)) → q ≡ (asked ⇒ leb (m .bound) (fillers s es (m .role .0) (m .literal)))) ⌝ }
 {
     if asked {
-        m.bound <= count_fillers(s, es, m.role, m.literal)
+        m.bound <= count_fillers(masks, counts, highs, lows, m.role, m.literal)
     } else {
         true
     }
 }
 
 // Whether the fillers do not reach the number and each is decided, if that is asked.
-fn missed_if(asked: bool, s: &[u8], es: &[u8], m: Count) -> bool
-    ensures { λ q. ⌜ q ≡ (asked ⇒ (ltb (fillers (now (s .entry)) (now (es .entry)) (m .role .0) (m .literal)) (m .bound) && allDecide (now (s .entry)) (now (es .entry)) (m .role .0) (m .literal))) ⌝ }
+fn missed_if(
+    asked: bool,
+    masks: &[u32; 32],
+    counts: &[u16; 32],
+    highs: &[u32; 32],
+    lows: &[u32; 32],
+    m: Count,
+) -> bool
+    ensures { λ q. ⌜ ((s es : List ℕ) → Gathered s es (now (masks .entry)) (now (highs .entry)) (now (lows .entry)) → Counted es (now (counts .entry)) → q ≡ (asked ⇒ (ltb (fillers s es (m .role .0) (m .literal)) (m .bound) && allDecide s es (m .role .0) (m .literal)))) ⌝ }
 {
     if asked {
-        let few = count_fillers(s, es, m.role, m.literal) < m.bound;
-        let decided = all_decided(s, es, m.role, m.literal);
+        let few = count_fillers(masks, counts, highs, lows, m.role, m.literal) < m.bound;
+        let decided = all_decided(masks, highs, lows, m.role, m.literal);
         few & decided
     } else {
         true
@@ -254,23 +312,39 @@ fn missed_if(asked: bool, s: &[u8], es: &[u8], m: Count) -> bool
 }
 
 // Rule 15 of "at least", entry `e`, with what it counts.
-fn least_holds(s: &[u8], es: &[u8], x: Label, e: EntryNo, m: Count) -> bool
+fn least_holds(
+    masks: &[u32; 32],
+    counts: &[u16; 32],
+    highs: &[u32; 32],
+    lows: &[u32; 32],
+    x: Label,
+    e: EntryNo,
+    m: Count,
+) -> bool
     requires { ⌜ e .0 < 32 ⌝ }
-    ensures { λ q. ⌜ q ≡ leastHolds (now (s .entry)) (now (es .entry)) (valueOf x) (e .0) (m .role .0) (m .literal) (m .bound) ⌝ }
+    ensures { λ q. ⌜ ((s es : List ℕ) → Gathered s es (now (masks .entry)) (now (highs .entry)) (now (lows .entry)) → Counted es (now (counts .entry)) → q ≡ leastHolds s es (valueOf x) (e .0) (m .role .0) (m .literal) (m .bound)) ⌝ }
 {
-    let reached = reached_if(holds(x, 2 * e.0), s, es, m);
-    let missed = missed_if(holds(x, 2 * e.0 + 1), s, es, m);
+    let reached = reached_if(holds(x, 2 * e.0), masks, counts, highs, lows, m);
+    let missed = missed_if(holds(x, 2 * e.0 + 1), masks, counts, highs, lows, m);
     reached & missed
 }
 
 // Rule 15 of one entry.
-fn least_at(cs: &[u8], s: &[u8], x: Label, es: &[u8], e: EntryNo) -> bool
+fn least_at(
+    cs: &[u8],
+    x: Label,
+    masks: &[u32; 32],
+    counts: &[u16; 32],
+    highs: &[u32; 32],
+    lows: &[u32; 32],
+    e: EntryNo,
+) -> bool
     requires { ⌜ e .0 < 32 ⌝ }
-    ensures { λ q. ⌜ q ≡ leastAt (now (cs .entry)) (now (s .entry)) (valueOf x) (now (es .entry)) (e .0) ⌝ }
+    ensures { λ q. ⌜ ((s es : List ℕ) → Gathered s es (now (masks .entry)) (now (highs .entry)) (now (lows .entry)) → Counted es (now (counts .entry)) → q ≡ leastAt (now (cs .entry)) s (valueOf x) es (e .0)) ⌝ }
 {
     let c = concept_at(cs, e);
     match c {
-        Concept::AtLeast(m) => least_holds(s, es, x, e, m),
+        Concept::AtLeast(m) => least_holds(masks, counts, highs, lows, x, e, m),
         Concept::Top => true,
         Concept::Name => true,
         Concept::Both(_, _) => true,
@@ -278,17 +352,42 @@ fn least_at(cs: &[u8], s: &[u8], x: Label, es: &[u8], e: EntryNo) -> bool
     }
 }
 
-// Rule 15 of a record with the label `x` and the edges `es`, in the evidence `s`.
-pub fn counts_ok(cs: &[u8], s: &[u8], x: Label, es: &[u8]) -> bool
-    ensures { λ r. ⌜ r ≡ countsCode (now (cs .entry)) (now (s .entry)) (valueOf x) (now (es .entry)) ⌝ }
+// Rule 15 of a record with the label `x`.
+fn counts_ok(
+    cs: &[u8],
+    x: Label,
+    masks: &[u32; 32],
+    counts: &[u16; 32],
+    highs: &[u32; 32],
+    lows: &[u32; 32],
+) -> bool
+    ensures { λ q. ⌜ ((s es : List ℕ) → Gathered s es (now (masks .entry)) (now (highs .entry)) (now (lows .entry)) → Counted es (now (counts .entry)) → q ≡ countsCode (now (cs .entry)) s (valueOf x) es) ⌝ }
 {
     let n = entry_count(cs);
     let mut e: u8 = 0;
     while e < n {
-        if !least_at(cs, s, x, es, EntryNo(e)) {
+        if !least_at(cs, x, masks, counts, highs, lows, EntryNo(e)) {
             return false;
         }
         e += 1;
     }
     true
+}
+
+// Rules 14 and 15 of record `i`, with the label `x` and the edges `es`, in the evidence `s`, with the table of sources.
+pub fn test_fillers(cs: &[u8], src: [Label; 32], s: &[u8], i: u8, x: Label, es: &[u8]) -> Tested
+    ensures { λ r. ⌜ refusalOf r ≡ refuse i (unless (everysWith (now (cs .entry)) (now (s .entry)) src (valueOf x) (now (es .entry))) 14 (unless (countsCode (now (cs .entry)) (now (s .entry)) (valueOf x) (now (es .entry))) 15 none)) none ⌝ }
+{
+    let t = targets_of(s, es);
+    let masks = t.masks;
+    let highs = t.highs;
+    let lows = t.lows;
+    if !everys_ok(cs, src, x, &masks, &highs, &lows) {
+        return Tested::Refused(14, i);
+    }
+    let counts = t.counts;
+    if !counts_ok(cs, x, &masks, &counts, &highs, &lows) {
+        return Tested::Refused(15, i);
+    }
+    Tested::Fine
 }

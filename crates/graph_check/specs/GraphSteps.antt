@@ -13,8 +13,10 @@ use Rattle.parts.specs.Pairs.{lengthAt}
 use Rattle.evidence.specs.Evidence.{recordCount, edgesPart, nodeFormTest, labelOf}
 use Rattle.nodes.specs.NodeSteps.{entryCount, labelTestOf, bothAt}
 use Rattle.edges.specs.EdgeSteps.{edgesCode}
+use Rattle.labels.specs.declared.Label.{Label}
 use Rattle.fillers.specs.FillerSteps.{everysCode, countsCode}
-use Rattle.answers.specs.declared.Tested.the-variants.{Fine, Refused}
+use Rattle.fillers.specs.Sources.{SourcesOf, everysWith, everys-with}
+use Rattle.answers.specs.declared.Tested.the-variants.{Refused}
 use Rattle.answers.specs.Answers.{refusalOf, wholly}
 use Rattle.intake.specs.Steps.{tablesTest}
 use Rattle.graph_check.specs.GraphEvidence.{graphHead}
@@ -69,20 +71,11 @@ module _ (rs cs qs a s : List ℕ) (n i N : ℕ) (es : List ℕ) where
   unfolding nodeCode
   stops-13 p q e = rw (p, q, e) refl
 
-  pub stops-14 : labelTestOf cs qs N (eqb i 0) ≡ true → allBelow (entryCount cs) (bothAt cs N) ≡ true → edgesCode a (upTo 16 (length rs / 3)) n es ≡ true
-      → everysCode rs cs s a N es ≡ false → refusalOf (Refused 14 i) ≡ node
+  -- 14 with the table of sources
+  pub goes-on : (src : List Label) → SourcesOf rs cs a src → labelTestOf cs qs N (eqb i 0) ≡ true → allBelow (entryCount cs) (bothAt cs N) ≡ true
+      → edgesCode a (upTo 16 (length rs / 3)) n es ≡ true → refuse i (unless (everysWith cs s src N es) 14 (unless (countsCode cs s N es) 15 none)) none ≡ node
   unfolding nodeCode
-  stops-14 p q r e = rw (p, q, r, e) refl
-
-  pub stops-15 : labelTestOf cs qs N (eqb i 0) ≡ true → allBelow (entryCount cs) (bothAt cs N) ≡ true → edgesCode a (upTo 16 (length rs / 3)) n es ≡ true
-      → everysCode rs cs s a N es ≡ true → countsCode cs s N es ≡ false → refusalOf (Refused 15 i) ≡ node
-  unfolding nodeCode
-  stops-15 p q r t e = rw (p, q, r, t, e) refl
-
-  pub stops-nowhere : labelTestOf cs qs N (eqb i 0) ≡ true → allBelow (entryCount cs) (bothAt cs N) ≡ true → edgesCode a (upTo 16 (length rs / 3)) n es ≡ true
-      → everysCode rs cs s a N es ≡ true → countsCode cs s N es ≡ true → refusalOf Fine ≡ node
-  unfolding nodeCode
-  stops-nowhere p q r t e = rw (p, q, r, t, e) refl
+  goes-on src T p q r = rw (everys-with rs cs a N s es src T, p, q, r) refl
 
 -- the record's label and edges, as they are read
 pub record-read : (rs cs qs a s : List ℕ) (n i N : ℕ) (es : List ℕ) → N ≡ labelOf s i → es ≡ edgesPart s i

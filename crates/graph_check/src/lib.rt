@@ -4,6 +4,7 @@ ghost use mathlib.Core.Option.{none};
 ghost use Rattle.logic.specs.Refusals.{refuse, refuseFrom};
 ghost use Rattle.labels.specs.Labels.{valueOf};
 ghost use Rattle.answers.specs.Answers.{refusalOf};
+ghost use Rattle.fillers.specs.Sources.{SourcesOf};
 ghost use Rattle.graph_check.specs.GraphSteps.{formCode, formOf, nodeCode, recordCode, recordsCode, graphCode, tablesCode};
 use answers::Tested;
 use edges::edges_ok;
@@ -12,8 +13,8 @@ use evidence::node_form_ok;
 use evidence::read_head;
 use evidence::record_edges;
 use evidence::record_label;
-use fillers::counts_ok;
-use fillers::everys_ok;
+use fillers::sources;
+use fillers::test_fillers;
 use intake::test_tables;
 use labels::Label;
 use nodes::boths_ok;
@@ -41,18 +42,20 @@ fn test_forms(s: &[u8], n: u8) -> Tested
     Tested::Fine
 }
 
-// Rules 11 to 15 of record `i`, whose label is `x` and whose edges are `es`, in a graph of `n` records.
+// Rules 11 to 15 of record `i`, whose label is `x` and whose edges are `es`, in a graph of `n` records, with the table of sources.
 fn test_node(
     rs: &[u8],
     cs: &[u8],
     qs: &[u8],
     a: [u16; 16],
+    src: [Label; 32],
     s: &[u8],
     n: u8,
     i: u8,
     x: Label,
     es: &[u8],
 ) -> Tested
+    requires { ⌜ SourcesOf (now rs) (now cs) a src ⌝ }
     ensures { λ r. ⌜ refusalOf r ≡ refuse i (nodeCode (now (rs .entry)) (now (cs .entry)) (now (qs .entry)) a (now (s .entry)) n i (valueOf x) (now (es .entry))) none ⌝ }
 {
     if !label_ok(cs, qs, x, i == 0) {
@@ -64,17 +67,21 @@ fn test_node(
     if !edges_ok(es, a, rs.len() / 3, n) {
         return Tested::Refused(13, i);
     }
-    if !everys_ok(rs, cs, s, a, x, es) {
-        return Tested::Refused(14, i);
-    }
-    if !counts_ok(cs, s, x, es) {
-        return Tested::Refused(15, i);
-    }
-    Tested::Fine
+    test_fillers(cs, src, s, i, x, es)
 }
 
-// Rules 11 to 15 of record `i`, in a graph of `n` records.
-fn test_record(rs: &[u8], cs: &[u8], qs: &[u8], a: [u16; 16], s: &[u8], n: u8, i: u8) -> Tested
+// Rules 11 to 15 of record `i`, in a graph of `n` records, with the table of sources.
+fn test_record(
+    rs: &[u8],
+    cs: &[u8],
+    qs: &[u8],
+    a: [u16; 16],
+    src: [Label; 32],
+    s: &[u8],
+    n: u8,
+    i: u8,
+) -> Tested
+    requires { ⌜ SourcesOf (now rs) (now cs) a src ⌝ }
     ensures { λ r. ⌜ refusalOf r ≡ refuse i (recordCode (now (rs .entry)) (now (cs .entry)) (now (qs .entry)) a (now (s .entry)) n i) none ⌝ }
 {
     test_node(
@@ -82,6 +89,7 @@ fn test_record(rs: &[u8], cs: &[u8], qs: &[u8], a: [u16; 16], s: &[u8], n: u8, i
         cs,
         qs,
         a,
+        src,
         s,
         n,
         i,
@@ -94,9 +102,10 @@ fn test_record(rs: &[u8], cs: &[u8], qs: &[u8], a: [u16; 16], s: &[u8], n: u8, i
 fn test_records(rs: &[u8], cs: &[u8], qs: &[u8], a: [u16; 16], s: &[u8], n: u8) -> Tested
     ensures { λ r. ⌜ refusalOf r ≡ refuseFrom (recordCode (now (rs .entry)) (now (cs .entry)) (now (qs .entry)) a (now (s .entry)) n) n 0 none ⌝ }
 {
+    let src = sources(rs, cs, a);
     let mut i: u8 = 0;
     while i < n {
-        let t = test_record(rs, cs, qs, a, s, n, i);
+        let t = test_record(rs, cs, qs, a, src, s, n, i);
         let Tested::Fine = t else {
             return t;
         };

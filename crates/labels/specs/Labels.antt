@@ -1,5 +1,5 @@
 -- Labels as the code holds them: two words of 32 bits that are one number (FORMAT 4).
-use Prim.Native.Nat.{ℕ, _+_, _≤_}
+use Prim.Native.Nat.{ℕ, _+_, _*_, _≤_}
 use mathlib.Core.Path.{_≡_, refl}
 use mathlib.Core.List.{List}
 use native.Mathlib.Omega.{arith}
@@ -7,7 +7,7 @@ use mathlib.Core.Bool.{cond}
 use lib.Dec.{ltb}
 use lib.ListN.{length}
 use Rattle.logic.specs.Sets.{with}
-use Rattle.parts.specs.Numbers.{num2, past}
+use Rattle.parts.specs.Numbers.{byteAt, num2, past}
 use Rattle.labels.specs.Blocks.{block}
 use Rattle.labels.specs.declared.Label.{Label}
 
@@ -32,3 +32,13 @@ past4 s at h = rw (← past s at h, ← past s (at + 2) (omega arith)) refl
 
 pub past8 : (s : List ℕ) (at : ℕ) → length s ≤ at → 0 ≡ labelIn s at
 past8 s at h = rw (← past4 s at h, ← past4 s (at + 4) (omega arith)) refl
+
+-- its bytes one by one
+pub label-read : (s : List ℕ) (at a b : ℕ) → a ≡ block 16 (byteAt s at * 256 + byteAt s (at + 1)) (byteAt s (at + 2) * 256 + byteAt s (at + 3))
+    → b ≡ block 16 (byteAt s (at + 4) * 256 + byteAt s (at + 5)) (byteAt s (at + 6) * 256 + byteAt s (at + 7)) → block 32 a b ≡ labelIn s at
+label-read s at a b h k =
+    let three : at + 2 + 1 ≡ at + 3 = omega arith in
+    let five : at + 4 + 1 ≡ at + 5 = omega arith in
+    let six : at + 4 + 2 ≡ at + 6 = omega arith in
+    let seven : at + 6 + 1 ≡ at + 7 = omega arith in
+    rw (h, k, three, five, six, seven) refl

@@ -1,7 +1,8 @@
 // Labels: sets of literals, read in place and held in two words.
 ghost use mathlib.Core.Path.{_≡_};
-ghost use Prim.Native.Nat.{_<_};
+ghost use Prim.Native.Nat.{_+_, _*_, _<_};
 ghost use Rattle.logic.specs.Sets.{has, narrow, within};
+ghost use Rattle.labels.specs.Blocks.{block};
 ghost use Rattle.labels.specs.Labels.{num4, labelIn, labelWith, valueOf};
 use parts::byte;
 use parts::mask2;
@@ -22,8 +23,15 @@ pub fn word(s: &[u8], at: usize) -> u32
     }
 }
 
-// The label at `at`.
-pub fn load(s: &[u8], at: usize) -> Label
+// Four bytes as a word.
+fn four(a: u8, b: u8, c: u8, d: u8) -> u32
+    ensures { λ r. ⌜ r ≡ block 16 (a * 256 + b) (c * 256 + d) ⌝ }
+{
+    (a as u32) * 16777216 + (b as u32) * 65536 + (c as u32) * 256 + (d as u32)
+}
+
+// The label at `at`; bytes past the end count as 0.
+fn cut_label(s: &[u8], at: usize) -> Label
     ensures { λ r. ⌜ valueOf r ≡ labelIn (now (s .entry)) at ⌝ }
 {
     if at < s.len() {
@@ -33,6 +41,22 @@ pub fn load(s: &[u8], at: usize) -> Label
         }
     } else {
         Label { high: 0, low: 0 }
+    }
+}
+
+// The label at `at`, with one comparison if its eight bytes are there: every rule reads labels.
+pub fn load(s: &[u8], at: usize) -> Label
+    ensures { λ r. ⌜ valueOf r ≡ labelIn (now (s .entry)) at ⌝ }
+{
+    if s.len() < 8 {
+        return cut_label(s, at);
+    }
+    if s.len() - 8 < at {
+        return cut_label(s, at);
+    }
+    Label {
+        high: four(s[at], s[at + 1], s[at + 2], s[at + 3]),
+        low: four(s[at + 4], s[at + 5], s[at + 6], s[at + 7]),
     }
 }
 
@@ -78,20 +102,6 @@ pub fn lies_within(x: Label, y: Label) -> bool
     ensures { λ r. ⌜ r ≡ within (valueOf x) (valueOf y) ⌝ }
 {
     (x.high & y.high == x.high) & (x.low & y.low == x.low)
-}
-
-// Whether the label at `at` holds the literal `l`, read in place: one byte.
-pub fn holds_at(s: &[u8], at: usize, l: u8) -> bool
-    ensures { λ r. ⌜ r ≡ has (labelIn (now (s .entry)) at) l ⌝ }
-{
-    if s.len() <= at {
-        return false;
-    }
-    if 64 <= l {
-        return false;
-    }
-    let x = byte(s, at + (7 - (l / 8) as usize));
-    (x >> (l % 8)) % 2 == 1
 }
 
 // The label with the literal `l` put in.

@@ -1,6 +1,6 @@
 // Test 18 of a counting step: what every filler of a cell has, and that the record cited for the cell has no more.
 ghost use mathlib.Core.Path.{_≡_};
-ghost use mathlib.Core.Bool.{_&&_};
+ghost use mathlib.Core.Bool.{_&&_, cond};
 ghost use Prim.Native.Nat.{ℕ, _*_, _<_, _≤_};
 ghost use lib.Dec.{eqb};
 ghost use Rattle.logic.specs.Bounded.{anyBelow};
@@ -9,7 +9,8 @@ ghost use Rattle.parts.specs.Numbers.{upTo};
 ghost use Rattle.labels.specs.Labels.{valueOf};
 ghost use Rattle.nodes.specs.NodeSteps.{entryCount};
 ghost use Rattle.rows.specs.HeldRows.{given, heldAt, rowsHeld};
-ghost use Rattle.list_cells.specs.CellSteps.{Adds, Puts, entryIn, roleOf, rowShows, passes, everyShows, carriedAt, knownIn, cellCode, cellsCode};
+ghost use Rattle.list_cells.specs.CellSteps.{Adds, Puts, entryIn, passes, everyShows, carriedAt, cellsCode};
+ghost use Rattle.list_cells.specs.CellRows.{Masks, Labels, shownBy, deniedBy, bitOf, aboveOf, rolesIn, gathered, citedIn};
 use evidence::record_label;
 use fillers::is_carried;
 use labels::Label;
@@ -36,50 +37,11 @@ fn join_if(x: u16, y: u16, asked: bool) -> u16
     if asked { x | y } else { x }
 }
 
-// The roles of cell `c`: the ancestors of the roles of its rows.
-fn cell_roles(a: [u16; 16], rows: [Row; 6], k: u8, c: u8) -> u16
-    requires { ⌜ k ≤ 6 ⌝ }
-    ensures { λ r. ⌜ ((t : ℕ) → has r t ≡ roleOf a (rowsHeld rows k) c t) ⌝ }
-{
-    let mut out: u16 = 0;
-    let mut i: u8 = 0;
-    while i < k {
-        let row = row_at(rows, i);
-        out = join_if(out, a[(row.role.0 % 16) as usize], has16(c as u16, i));
-        i += 1;
-    }
-    out
-}
-
 // The label with the literal `l`, if that is asked.
 fn put_if(x: Label, l: u8, asked: bool) -> Label
     ensures { λ r. ⌜ Puts (valueOf x) (valueOf r) (λ m. asked && eqb l m) ⌝ }
 {
     if asked { put(x, l) } else { x }
-}
-
-// The label with what row `i` shows of cell `c`, which has those roles.
-fn with_row(x: Label, roles: u16, row: Row, c: u8, i: u8) -> Label
-    ensures { λ r. ⌜ Puts (valueOf x) (valueOf r) (λ l. rowShows (has roles) c l i (given row)) ⌝ }
-{
-    if has16(c as u16, i) {
-        return put_if(x, row.qualifier, true);
-    }
-    put_if(x, opposite(row.qualifier), has16(roles, row.role.0))
-}
-
-// The label with what the rows show of cell `c`, which has those roles.
-fn with_rows(x: Label, roles: u16, rows: [Row; 6], k: u8, c: u8) -> Label
-    requires { ⌜ k ≤ 6 ⌝ }
-    ensures { λ r. ⌜ Puts (valueOf x) (valueOf r) (λ l. anyBelow k (λ i. rowShows (has roles) c l i (given (heldAt rows i)))) ⌝ }
-{
-    let mut out = x;
-    let mut i: u8 = 0;
-    while i < k {
-        out = with_row(out, roles, row_at(rows, i), c, i);
-        i += 1;
-    }
-    out
 }
 
 // Whether entry `f` is an "every" that the label `x` carries on.
@@ -152,36 +114,191 @@ fn with_everys(start: Label, cs: &[u8], x: Label, on: Label, roles: u16) -> Labe
     out
 }
 
-// What one cell shows: the label that every filler of cell `c` has.
-fn known_label(cs: &[u8], a: [u16; 16], x: Label, on: Label, rows: [Row; 6], k: u8, c: u8) -> Label
-    requires { ⌜ k ≤ 6 ⌝ }
-    ensures { λ r. ⌜ valueOf r ≡ knownIn (now (cs .entry)) a (valueOf x) (entryIn (valueOf on)) (rowsHeld rows k) c ⌝ }
+// What is in one of two labels.
+fn join(x: Label, y: Label) -> Label
+    ensures { λ r. ⌜ Puts (valueOf x) (valueOf r) (has (valueOf y)) ⌝ }
 {
-    let roles = cell_roles(a, rows, k, c);
-    let top = put(Label { high: 0, low: 0 }, 0);
-    let counted = with_rows(top, roles, rows, k, c);
-    with_everys(counted, cs, x, on, roles)
+    Label {
+        high: x.high | y.high,
+        low: x.low | y.low,
+    }
+}
+
+// What a row shows of its own cells: its qualifier, and what the entries show by its role alone.
+fn shown_by(cs: &[u8], a: [u16; 16], x: Label, on: Label, row: Row) -> Label
+    ensures { λ r. ⌜ valueOf r ≡ shownBy (now (cs .entry)) a (valueOf x) (entryIn (valueOf on)) (given row) ⌝ }
+{
+    let start = put(Label { high: 0, low: 0 }, row.qualifier);
+    with_everys(start, cs, x, on, a[(row.role.0 % 16) as usize])
+}
+
+// What each of the first `k` rows shows of its own cells.
+fn shown_of(cs: &[u8], a: [u16; 16], x: Label, on: Label, rows: [Row; 6], k: u8) -> [Label; 6]
+    requires { ⌜ k ≤ 6 ⌝ }
+    ensures { λ r. ⌜ Labels (λ i. shownBy (now (cs .entry)) a (valueOf x) (entryIn (valueOf on)) (given (heldAt rows i))) k r ⌝ }
+{
+    let none = Label { high: 0, low: 0 };
+    let mut out = [none; 6];
+    let mut i: u8 = 0;
+    while i < k {
+        out[i as usize] = shown_by(cs, a, x, on, row_at(rows, i));
+        i += 1;
+    }
+    out
+}
+
+// The opposite of a row's qualifier.
+fn denied_by(row: Row) -> Label
+    ensures { λ r. ⌜ valueOf r ≡ deniedBy (given row) ⌝ }
+{
+    put(Label { high: 0, low: 0 }, opposite(row.qualifier))
+}
+
+// What each of the first `k` rows shows of other cells that have its role.
+fn against_of(rows: [Row; 6], k: u8) -> [Label; 6]
+    requires { ⌜ k ≤ 6 ⌝ }
+    ensures { λ r. ⌜ Labels (λ i. deniedBy (given (heldAt rows i))) k r ⌝ }
+{
+    let none = Label { high: 0, low: 0 };
+    let mut out = [none; 6];
+    let mut i: u8 = 0;
+    while i < k {
+        out[i as usize] = denied_by(row_at(rows, i));
+        i += 1;
+    }
+    out
+}
+
+// The mask `x`, which has roles below 16 alone.
+fn mask(x: u16) -> u16
+    ensures { λ r. ⌜ (r ≡ x) × (r < 65536) ⌝ }
+{
+    x
+}
+
+// The ancestors of a row's role.
+fn above_by(a: [u16; 16], row: Row) -> u16
+    ensures { λ r. ⌜ (r ≡ aboveOf a (given row)) × (r < 65536) ⌝ }
+{
+    mask(a[(row.role.0 % 16) as usize])
+}
+
+// The ancestors of the role of each of the first `k` rows.
+fn above_of(a: [u16; 16], rows: [Row; 6], k: u8) -> [u16; 6]
+    requires { ⌜ k ≤ 6 ⌝ }
+    ensures { λ r. ⌜ Masks (λ i. aboveOf a (given (heldAt rows i))) k r × ((i : ℕ) → i < k → aboveOf a (given (heldAt rows i)) < 65536) ⌝ }
+{
+    let mut out: [u16; 6] = [0; 6];
+    let mut i: u8 = 0;
+    while i < k {
+        out[i as usize] = above_by(a, row_at(rows, i));
+        i += 1;
+    }
+    out
+}
+
+// The mask of the role of a row alone; of none if the role is past the masks.
+fn own_by(row: Row) -> u16
+    ensures { λ r. ⌜ r ≡ bitOf (given row) ⌝ }
+{
+    let r = row.role.0;
+    if r < 16 { 1 << r } else { 0 }
+}
+
+// The mask of the role of each of the first `k` rows.
+fn own_of(rows: [Row; 6], k: u8) -> [u16; 6]
+    requires { ⌜ k ≤ 6 ⌝ }
+    ensures { λ r. ⌜ Masks (λ i. bitOf (given (heldAt rows i))) k r ⌝ }
+{
+    let mut out: [u16; 6] = [0; 6];
+    let mut i: u8 = 0;
+    while i < k {
+        out[i as usize] = own_by(row_at(rows, i));
+        i += 1;
+    }
+    out
+}
+
+// The roles of cell `c`: those above the roles of its rows.
+fn cell_roles(above: [u16; 6], c: u8) -> u16
+    ensures { λ r. ⌜ ((t : ℕ) → has r t ≡ rolesIn above c t) ⌝ }
+{
+    let mut out: u16 = 0;
+    let mut i: u8 = 0;
+    while i < 6 {
+        out = join_if(out, above[i as usize], has16(c as u16, i));
+        i += 1;
+    }
+    out
+}
+
+// Whether two masks have a role in common.
+fn meet(x: u16, y: u16) -> bool
+    ensures { λ r. ⌜ r ≡ anyBelow 16 (λ t. has x t && has y t) ⌝ }
+{
+    x & y != 0
+}
+
+// The label with what a row shows of a cell: `shown` if it is within the row, `against` if it is outside and has the role.
+fn with_row(x: Label, within: bool, shown: Label, reached: bool, against: Label) -> Label
+    ensures { λ r. ⌜ Puts (valueOf x) (valueOf r) (λ l. cond within (has (valueOf shown) l) (reached && has (valueOf against) l)) ⌝ }
+{
+    if within {
+        return join(x, shown);
+    }
+    if reached {
+        return join(x, against);
+    }
+    x
+}
+
+// The label that every filler of cell `c` has.
+fn known_label(
+    above: [u16; 6],
+    own: [u16; 6],
+    shown: [Label; 6],
+    against: [Label; 6],
+    c: u8,
+) -> Label
+    ensures { λ r. ⌜ valueOf r ≡ gathered above own shown against c ⌝ }
+{
+    let roles = cell_roles(above, c);
+    let mut out = put(Label { high: 0, low: 0 }, 0);
+    let mut i: u8 = 0;
+    while i < 6 {
+        let inside = shown[i as usize];
+        let outside = against[i as usize];
+        out = with_row(
+            out,
+            has16(c as u16, i),
+            inside,
+            meet(roles, own[i as usize]),
+            outside,
+        );
+        i += 1;
+    }
+    out
 }
 
 // Test 18 of cell `c`, which has the byte `cell`.
 fn cell_ok(
-    cs: &[u8],
-    a: [u16; 16],
     s: &[u8],
-    x: Label,
-    on: Label,
-    rows: [Row; 6],
-    k: u8,
+    above: [u16; 6],
+    own: [u16; 6],
+    shown: [Label; 6],
+    against: [Label; 6],
     c: u8,
     cell: u8,
 ) -> bool
-    requires { ⌜ k ≤ 6 ⌝ }
-    ensures { λ r. ⌜ r ≡ cellCode (now (cs .entry)) a (now (s .entry)) (valueOf x) (entryIn (valueOf on)) (rowsHeld rows k) c cell ⌝ }
+    ensures { λ r. ⌜ r ≡ citedIn (now (s .entry)) (gathered above own shown against c) cell ⌝ }
 {
     if cell == 255 {
         return true;
     }
-    lies_within(record_label(s, cell), known_label(cs, a, x, on, rows, k, c))
+    lies_within(
+        record_label(s, cell),
+        known_label(above, own, shown, against, c),
+    )
 }
 
 // Test 18: each cell that cites a record has the record's label within its known label.
@@ -200,10 +317,14 @@ pub fn cells_ok(
     let n = up_to(6, k as usize);
     let end = cell_count(k);
     let on = carried_entries(rs, cs, a, x);
+    let shown = shown_of(cs, a, x, on, rows, n);
+    let against = against_of(rows, n);
+    let above = above_of(a, rows, n);
+    let own = own_of(rows, n);
     let mut c: u8 = 1;
     while (c as usize) < end {
         let cell = byte(ds, 1 + (n as usize) + (c as usize));
-        if !cell_ok(cs, a, s, x, on, rows, n, c, cell) {
+        if !cell_ok(s, above, own, shown, against, c, cell) {
             return false;
         }
         c += 1;

@@ -36,6 +36,17 @@ unfoldable pub nodeIn : List ℕ → ℕ → ℕ → Node
 nodeIn ds limits at = cond (ltb at (length ds) && eqb (byteAt ds at) 0) (cond (leb (at + 1 + limits) (length ds)) (Leaf (at + 1 + limits)) Off)
     (cond (leb (at + 4) (length ds) && eqb (byteAt ds at) 1) Split Off)
 
+-- the paper's number of each case: where no node stands, the form is off
+abbrev pub nodeRefusal : Node → Option ℕ
+nodeRefusal (Leaf end) = none
+nodeRefusal Split = none
+nodeRefusal Off = some 10
+
+abbrev pub isNode : Node → Bool
+isNode (Leaf end) = true
+isNode Split = true
+isNode Off = false
+
 abbrev pub byNode : {A : Type 0} → (ℕ → Option A) → Option A → Node → Option A
 byNode f g (Leaf end) = f end
 byNode f g Split = g

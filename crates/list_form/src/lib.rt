@@ -1,10 +1,12 @@
 // The form of a refutation's record behind its label: test 10.
 ghost use mathlib.Core.Path.{_≡_};
 ghost use mathlib.Core.Bool.{_&&_};
+ghost use mathlib.Core.Option.{none};
 ghost use Prim.Native.Nat.{_+_, _≤_, _<_, _^_};
 ghost use lib.Dec.{eqb};
-ghost use Rattle.list_form.specs.ListForm.{nodeIn, treeIn, treeAt, countingIn, stepIn};
-ghost use Rattle.list_form.specs.FormSteps.{placeOf, formed};
+ghost use Rattle.logic.specs.Refusals.{unless};
+ghost use Rattle.list_form.specs.ListForm.{nodeIn, nodeRefusal, isNode, treeIn, treeAt, countingIn, stepIn};
+ghost use Rattle.list_form.specs.FormSteps.{endOf, formed};
 use parts::byte;
 
 // What stands at a place of a tree: a leaf with the place where it ends, a split, or neither.
@@ -14,15 +16,9 @@ pub enum Node {
     Off,
 }
 
-// Where a tree ends, if it has its form.
-pub enum Place {
-    At(usize),
-    Nowhere,
-}
-
 // The node at `at`; a leaf has a multiplier for each of `limits` bounds.
 pub fn read_node(ds: &[u8], limits: u8, at: usize) -> Node
-    ensures { λ r. ⌜ r ≡ nodeIn (now (ds .entry)) limits at ⌝ }
+    ensures { λ r. ⌜ (r ≡ nodeIn (now (ds .entry)) limits at) × (nodeRefusal r ≡ unless (isNode (nodeIn (now (ds .entry)) limits at)) 10 none) ⌝ }
 {
     if ds.len() <= at {
         return Node::Off;
@@ -42,23 +38,23 @@ pub fn read_node(ds: &[u8], limits: u8, at: usize) -> Node
     Node::Off
 }
 
-// Where the tree at `at` ends, with at most `left` splits above a leaf, under `limits` bounds.
-fn tree_end(ds: &[u8], left: u8, limits: u8, at: usize) -> Place
+// Where the tree at `at` ends, with at most `left` splits above a leaf, under `limits` bounds; 0 if it has not its form.
+fn tree_end(ds: &[u8], left: u8, limits: u8, at: usize) -> usize
     requires { ⌜ left + limits ≤ 14 ⌝ }
-    ensures { λ r. ⌜ r ≡ placeOf (treeIn (now (ds .entry)) left limits at) ⌝ }
+    ensures { λ r. ⌜ r ≡ endOf (treeIn (now (ds .entry)) left limits at) ⌝ }
 {
     let node = read_node(ds, limits, at);
     match node {
-        Node::Off => Place::Nowhere,
-        Node::Leaf(end) => Place::At(end),
+        Node::Off => 0,
+        Node::Leaf(end) => end,
         Node::Split => {
             if left == 0 {
-                return Place::Nowhere;
+                return 0;
             }
-            let first = tree_end(ds, left - 1, limits + 1, at + 4);
-            let Place::At(next) = first else {
-                return Place::Nowhere;
-            };
+            let next = tree_end(ds, left - 1, limits + 1, at + 4);
+            if next == 0 {
+                return 0;
+            }
             tree_end(ds, left - 1, limits + 1, next)
         }
     }
@@ -86,11 +82,7 @@ fn counting_form(ds: &[u8], k: u8) -> bool
     if ds.len() < start {
         return false;
     }
-    let place = tree_end(ds, 8, k, start);
-    match place {
-        Place::At(end) => end == ds.len(),
-        Place::Nowhere => false,
-    }
+    tree_end(ds, 8, k, start) == ds.len()
 }
 
 // Test 10 of the bytes behind a label: a known step, its data, and nothing more.

@@ -1,4 +1,7 @@
-pub mod Sums
 pub mod Gap
 pub mod Leaf
-pub mod LeafLaws
+pub mod OpenLaws
+pub mod Totals
+pub mod Weights
+pub mod WeightSteps
+pub mod WeightLaws

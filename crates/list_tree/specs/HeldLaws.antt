@@ -8,7 +8,7 @@ use native.Mathlib.Omega.{arith}
 use native.Mathlib.Decide.{decLt}
 use native.Mathlib.Numerals.{add-one}
 use borrow.Author.Tests.{lt-ltb, le-ltb, le-leb, lt-leb}
-use lib.Dec.{eqb, leb}
+use lib.Dec.{eqb, leb, ltb}
 use lib.Pow.{pow-pos}
 use lib.ListN.{length, getD, set, take, drop, length-set, List·getD-eq-default}
 use lib.Seq.{getD-set-same, getD-set-other, drop-cons}
@@ -24,15 +24,16 @@ use Rattle.refutation.specs.Cells as Theory
 use Rattle.refutation.specs.Cells.{bounds, length-bounds}
 use Rattle.refutation.specs.Records.{unshown, cited, isOpen, openAt, Counting, asCounting, counting}
 use Rattle.list_form.specs.ListForm.{Placed, bytesAt, cellOf, treeIn, treeAt, mostDepth, countingIn, andThen, given}
-use Rattle.list_form.specs.FormSteps.{node-past}
-use Rattle.list_form.specs.declared.Place.{Place}
+use Rattle.list_form.specs.FormSteps.{node-past, tree-past}
 use Rattle.rows.specs.HeldRows as HeldRows
-use Rattle.rows.specs.HeldRows.{heldAt, rowsHeld, sideOf}
+use Rattle.rows.specs.HeldRows.{heldAt, rowsHeld}
 use Rattle.rows.specs.declared.Row.{Row}
 use Rattle.list_leaf.specs.declared.Limit.{Limit}
-use Rattle.list_leaf.specs.Leaf.{noLimit, limitsHeld, openByte, fewEnough, leafUnder}
+use Rattle.list_leaf.specs.Leaf.{noLimit, limitsHeld, openByte, openCell, fewEnough, marked, leafOver}
+use Rattle.list_leaf.specs.OpenLaws.{Among, marks-live, leaf-few}
 use Rattle.list_tree.specs.ListTree.{openIn, valueFits, closing, closingIn}
-use Rattle.list_tree.specs.TreeSteps.{rowLimit, PutBehind, closedIn, endOf, ended}
+use Rattle.list_tree.specs.TreeSteps.{rowLimit, meant, PutBehind, closedIn, endOf}
+use Rattle.list_tree.specs.TreeLaws.{closed-same}
 
 -- a part in the middle
 pub part-bytes : (ds : List ℕ) (at n : ℕ) → at + n ≤ length ds → take n (drop at ds) ≡ bytesAt (λ b. b) ds at n
@@ -44,12 +45,19 @@ part-bytes ds at (suc n) h = rw (drop-cons ds at 0 (omega arith)) (ap₂ _∷_ (
 -- ---- the limits
 -- one limit more in the array: a half of a split
 pub put-behind : (way : List Limit) (n : ℕ) (x : Limit) (l : Counting.Limit) → n < 14 → length way ≡ 14
-    → limit (sideOf (x .side)) (x .bound) (eqb (x .cell)) ≡ l → PutBehind way n l (set way n x)
+    → meant x ≡ l → PutBehind way n l (set way n x)
 put-behind way n x l h s e = record {
   size = simp length-set s;
   held = λ k g. rw (add-one n) (tabulate-snoc n _ ∙ ap₂ (λ xs y. xs ++ (y ∷ []))
       (tabulate-cong n _ _ (λ i q. rw (getD-set-other way n i x noLimit (λ e. omega arith)) refl))
       (rw (getD-set-same way n x noLimit (omega arith), le-ltb n k g) e));
+}
+
+-- the other half in its place
+pub put-again : (way : List Limit) (n : ℕ) (x y : Limit) (l : Counting.Limit) → n < 14 → length way ≡ 14 → meant y ≡ l → PutBehind way n l (set (set way n x) n y)
+put-again way n x y l h s e = let p = put-behind (set way n x) n y l h (simp length-set s) e in record {
+  size = p .size;
+  held = λ k g. p .held k g ∙ ap (λ xs. xs ++ (l ∷ [])) (tabulate-cong n _ _ (λ i q. rw (getD-set-other way n i x noLimit (λ e. omega arith)) refl));
 }
 
 -- an array that holds the rows
@@ -65,11 +73,12 @@ pub limits-rows : (k : ℕ) (rows : List Row) (way : List Limit) → ((i : ℕ) 
 limits-rows k rows way h = limits-of k 0 _ _ (λ i l. let z : 0 + i ≡ i = omega arith in rw (z, h i l, lt-ltb i k l) refl)
 
 -- ---- a leaf's multipliers
-pub leaf-part : (ds cells : List ℕ) (k n at end : ℕ) (way : List Limit) → k ≤ 6 → k ≤ n → n ≤ 14 → end ≡ at + 1 + n → end ≤ length ds
-    → (fewEnough k (length (take (end - (at + 1)) (drop (at + 1) ds))) && leafUnder k cells way (take (end - (at + 1)) (drop (at + 1) ds)))
-    ≡ leafTest (2 ^ k) (openByte cells) (limitsHeld k way n) (bytesAt (λ b. b) ds (at + 1) n)
-leaf-part ds cells k n at end way h g f e l = let z : end - (at + 1) ≡ n = omega arith in
-    rw (z, part-bytes ds (at + 1) n (omega arith), length-tabulate n (λ i. byteAt ds (at + 1 + i)), le-leb k 6 h, le-leb k n g, le-leb n 14 f) refl
+pub leaf-part : (ds : List ℕ) (marks : List Bool) (k n at end : ℕ) (way : List Limit) → k ≤ 6 → k ≤ n → n ≤ 14 → Among k marks → end ≡ at + 1 + n → end ≤ length ds
+    → (fewEnough k (length (take (end - (at + 1)) (drop (at + 1) ds))) && leafOver k marks way (take (end - (at + 1)) (drop (at + 1) ds)))
+    ≡ leafTest (2 ^ k) (marked marks) (limitsHeld k way n) (bytesAt (λ b. b) ds (at + 1) n)
+leaf-part ds marks k n at end way h g f a e l = let z : end - (at + 1) ≡ n = omega arith in
+    rw (z, part-bytes ds (at + 1) n (omega arith), length-tabulate n (λ i. byteAt ds (at + 1 + i)), le-leb k 6 h, le-leb k n g, le-leb n 14 f)
+    (leaf-few k marks (limitsHeld k way n) (bytesAt (λ b. b) ds (at + 1) n) h a)
 
 -- ---- the open cells
 pub open-part : (ds : List ℕ) (at n : ℕ) → at + n ≤ length ds → openByte (take n (drop at ds)) ≡ openAt (bytesAt cellOf ds at n)
@@ -102,25 +111,32 @@ module _ (rows : List Row) (ds : List ℕ) (k : ℕ) where
   unfolding closingIn treeIn
   closing-cut h c = rw (le-leb k 6 h, ← node-past ds k (treeAt k) (omega arith)) refl
 
-  pub closing-told : (way : List Limit) (start : ℕ) (q : Place) → k ≤ 6 → start ≡ treeAt k → start ≤ length ds
-      → limitsHeld k way k ≡ limits those
-      → q ≡ endOf (closedIn ds k (openByte (take (start - (2 + k)) (drop (2 + k) ds))) mostDepth k (limitsHeld k way k) start)
-      → ended q ≡ closingIn those ds k
-  unfolding closingIn closedIn
-  closing-told way start q h s l e t =
-      let z : start - (2 + k) ≡ 2 ^ k - 1 = omega arith in
-      ap ended t ∙ rw (z, open-part ds (2 + k) (2 ^ k - 1) (omega arith), e, s, le-leb k 6 h) (go (treeIn ds mostDepth k (treeAt k)))
-    where
-      passed : (b : Bool) (x : ℕ) → ended (endOf (given b x)) ≡ b
-      passed true x = refl
-      passed false x = refl
+  module _ (way : List Limit) (start q : ℕ) (h : k ≤ 6) (s : start ≡ treeAt k) (l : start ≤ length ds) (e : limitsHeld k way k ≡ limits those) where
+    -- the bytes of the cells
+    abbrev cells : List ℕ
+    cells = take (start - (2 + k)) (drop (2 + k) ds)
 
-      tested : Placed → Bool
-      tested t = treeTest (2 ^ k) (openIn ds k) valueFits (limits those) (t .tree)
+    closing-ends : q ≡ endOf (closedIn ds k (openByte cells) mostDepth k (limitsHeld k way k) start) → ltb 0 q ≡ closingIn those ds k
+    unfolding closingIn closedIn
+    closing-ends t =
+        let z : start - (2 + k) ≡ 2 ^ k - 1 = omega arith in
+        ap (ltb 0) t ∙ rw (z, open-part ds (2 + k) (2 ^ k - 1) (omega arith), e, s, le-leb k 6 h) (go (treeIn ds mostDepth k (treeAt k)) refl)
+      where
+        passed : (b : Bool) (x : ℕ) → 0 < x → ltb 0 (endOf (given b x)) ≡ b
+        passed true x p = lt-ltb 0 x p
+        passed false x p = refl
 
-      go : (o : Option Placed) → ended (endOf (andThen o (λ t. given (tested t) (t .end)))) ≡ closing those (openIn ds k) o
-      go none = refl
-      go (some t) = passed (tested t) (t .end) ∙ rw (length-bounds (rowsHeld rows k), length-tabulate k (λ i. HeldRows.given (heldAt rows i))) refl
+        tested : Placed → Bool
+        tested t = treeTest (2 ^ k) (openIn ds k) valueFits (limits those) (t .tree)
+
+        go : (o : Option Placed) → treeIn ds mostDepth k (treeAt k) ≡ o → ltb 0 (endOf (andThen o (λ t. given (tested t) (t .end)))) ≡ closing those (openIn ds k) o
+        go none x = refl
+        go (some t) x = passed (tested t) (t .end) (tree-past ds mostDepth k (treeAt k) t x)
+            ∙ rw (length-bounds (rowsHeld rows k), length-tabulate k (λ i. HeldRows.given (heldAt rows i))) refl
+
+    pub closing-told : (marks : List Bool) → length marks ≡ 64 → ((c : ℕ) → c < 64 → marked marks c ≡ openCell k cells c)
+        → q ≡ endOf (closedIn ds k (marked marks) mostDepth k (limitsHeld k way k) start) → ltb 0 q ≡ closingIn those ds k
+    closing-told marks w m t = closing-ends (t ∙ ap endOf (closed-same ds k (marked marks) (openByte cells) mostDepth k (limitsHeld k way k) start (marks-live k cells marks w m h)))
 
 -- ---- 19 on bytes is 19 of the step that they are
 pub closing-step : (rows : List Bound) (ds : List ℕ) (k : ℕ) (K : Counting) → countingIn ds k ≡ some (counting K)

@@ -1,27 +1,30 @@
 -- The tree of a counting step as the code walks it: the limits that it holds, and the node and the tree at a place.
 use Prim.Native.Nat.{ℕ, _+_, _^_, _≤_}
 use mathlib.Core.Path.{_≡_}
-use mathlib.Core.Bool.{Bool, true, false, cond, _&&_}
+use mathlib.Core.Bool.{Bool, cond, _&&_}
 use mathlib.Core.List.{List, [], _∷_, _++_}
 use mathlib.Core.Option.{Option, none, some}
-use lib.Dec.{ltb}
+use lib.Dec.{eqb, ltb}
 use lib.ListN.{length}
 use Rattle.parts.specs.Numbers.{byteAt, num2}
 use Rattle.counting.specs.Trees as Counting
-use Rattle.counting.specs.Trees.{live, leafTest, treeTest}
+use Rattle.counting.specs.Trees.{limit, live, leafTest, treeTest}
 use Rattle.list_form.specs.ListForm.{bytesAt, nodeIn, treeIn, andThen, given}
 use Rattle.list_form.specs.declared.Node.{Node}
 use Rattle.list_form.specs.declared.Node.the-variants.{Leaf, Split, Off}
-use Rattle.list_form.specs.declared.Place.{Place}
-use Rattle.list_form.specs.declared.Place.the-variants.{At, Nowhere}
 use Rattle.list_leaf.specs.declared.Limit.{Limit}
 use Rattle.list_leaf.specs.Leaf.{limitsHeld}
 use Rattle.rows.specs.declared.Row.{Row}
+use Rattle.rows.specs.HeldRows.{sideOf}
 use Rattle.list_tree.specs.ListTree.{valueFits}
 
 -- ---- limits as the code holds them
 abbrev pub rowLimit : Row → Limit
 rowLimit x = record { side = x .side; bound = x .bound; cell = 0 }
+
+-- the limit that a half of a split is
+abbrev pub meant : Limit → Counting.Limit
+meant x = limit (sideOf (x .side)) (x .bound) (eqb (x .cell))
 
 -- behind the first n limits of the array stands l
 pub record PutBehind (way : List Limit) (n : ℕ) (l : Counting.Limit) (next : List Limit) : Type 0 where
@@ -46,11 +49,7 @@ fitNode ds k open? n ls at = fit ds k open? n ls at (nodeIn ds n at)
 unfoldable pub closedIn : List ℕ → ℕ → (ℕ → Bool) → ℕ → ℕ → List Counting.Limit → ℕ → Option ℕ
 closedIn ds k open? left n ls at = andThen (treeIn ds left n at) (λ t. given (treeTest (2 ^ k) open? valueFits ls (t .tree)) (t .end))
 
-abbrev pub endOf : Option ℕ → Place
-endOf none = Nowhere
-endOf (some end) = At end
-
--- a tree ends
-abbrev pub ended : Place → Bool
-ended (At end) = true
-ended Nowhere = false
+-- 0, where no tree ends, if there is none
+abbrev pub endOf : Option ℕ → ℕ
+endOf none = 0
+endOf (some end) = end

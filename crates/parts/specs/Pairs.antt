@@ -106,14 +106,13 @@ module _ (s : List ℕ) (at n i e : ℕ) where
   unfolding fillsFrom
   fills-end h = let z : n - i ≡ 0 = omega arith in rw z refl
 
--- ---- laws for the function that hands a part on
--- the part of a pair, read where the slice ends before it, in it, or after it
-module _ (s : List ℕ) (at i from n : ℕ) (p : from ≡ offsetAt s at i) (q : n ≡ lengthAt s at i) where
-  pub part-past : length s < from → [] ≡ partAt s at i
-  part-past h = rw (← p, ← q, drop-of-length-le s (let z : length s ≤ from = omega arith in z)) (sym (take-nil n))
+-- ---- laws for the function that hands a part on: the slice ends before it, in it, or after it
+module _ (s : List ℕ) (from n : ℕ) where
+  pub span-past : length s < from → [] ≡ take n (drop from s)
+  span-past h = rw (drop-of-length-le s (let z : length s ≤ from = omega arith in z)) (sym (take-nil n))
 
-  pub part-cut : from ≤ length s → length s - from < n → take (length s - from) (drop from s) ≡ partAt s at i
-  part-cut h k = let l = length-drop from s in rw (← p, ← q) (take-all (length s - from) (drop from s) (omega arith) ∙ sym (take-all n (drop from s) (omega arith)))
+  pub span-cut : from ≤ length s → length s - from < n → take (length s - from) (drop from s) ≡ take n (drop from s)
+  span-cut h k = let l = length-drop from s in take-all (length s - from) (drop from s) (omega arith) ∙ sym (take-all n (drop from s) (omega arith))
 
-  pub part-whole : take (from + n - from) (drop from s) ≡ partAt s at i
-  part-whole = rw (← p, ← q, add-sub-cancel-left) refl
+  pub span-whole : take (from + n - from) (drop from s) ≡ take n (drop from s)
+  span-whole = rw add-sub-cancel-left refl

@@ -1,6 +1,7 @@
 // Numbers in bytes, and the pairs that say where the parts of a slice lie.
 ghost use mathlib.Core.Path.{_≡_};
 ghost use Prim.Native.Nat.{_<_, _≤_};
+ghost use lib.ListN.{take, drop};
 ghost use Rattle.parts.specs.Numbers.{byteAt, num2, upTo};
 ghost use Rattle.parts.specs.Pairs.{fills, partAt};
 
@@ -68,13 +69,10 @@ pub fn pairs_fill(s: &[u8], at: u8, count: u8, first: u16) -> bool
     next == s.len()
 }
 
-// The part that pair `i` of the pairs at `at` names; what lies past the end is left out.
-pub fn part(s: &[u8], at: u8, i: u8) -> &[u8]
-    ensures { λ r. ⌜ now r ≡ partAt (now (s .entry)) at i ⌝ }
+// The `n` bytes from `from` on; what lies past the end is left out.
+pub fn span(s: &[u8], from: usize, n: usize) -> &[u8]
+    ensures { λ r. ⌜ now r ≡ take n (drop from (now (s .entry))) ⌝ }
 {
-    let pair = (at as usize) + 4 * (i as usize);
-    let from = read2(s, pair);
-    let n = read2(s, pair + 2);
     if s.len() < from {
         return &s[..0];
     }
@@ -82,4 +80,12 @@ pub fn part(s: &[u8], at: u8, i: u8) -> &[u8]
         return &s[from..];
     }
     &s[from..from + n]
+}
+
+// The part that pair `i` of the pairs at `at` names; what lies past the end is left out.
+pub fn part(s: &[u8], at: u8, i: u8) -> &[u8]
+    ensures { λ r. ⌜ now r ≡ partAt (now (s .entry)) at i ⌝ }
+{
+    let pair = (at as usize) + 4 * (i as usize);
+    span(s, read2(s, pair), read2(s, pair + 2))
 }

@@ -8,6 +8,7 @@ ghost use Rattle.report.specs.Cut.{longest};
 ghost use Rattle.report.specs.Text.{textOf, laid, over, Over, Digits};
 use answers::Verdict;
 use parts::read2;
+use parts::span;
 
 // Zeros: room for every byte of an input that its answer rests on. The clause `size` gives the length, which lending the array needs.
 pub fn input_space() -> [u8; 196608]
@@ -21,25 +22,14 @@ pub fn input_space() -> [u8; 196608]
 pub fn description_part(input: &[u8]) -> &[u8]
     ensures { λ r. ⌜ now r ≡ descriptionIn (now (input .entry)) ⌝ }
 {
-    let n = read2(input, 0);
-    if input.len() < 2 {
-        return &input[..0];
-    }
-    if input.len() - 2 < n {
-        return &input[2..];
-    }
-    &input[2..2 + n]
+    span(input, 2, read2(input, 0))
 }
 
 // The evidence: what follows the description.
 pub fn evidence_part(input: &[u8]) -> &[u8]
     ensures { λ r. ⌜ now r ≡ evidenceIn (now (input .entry)) ⌝ }
 {
-    let at = 2 + read2(input, 0);
-    if input.len() < at {
-        return &input[..0];
-    }
-    &input[at..]
+    span(input, 2 + read2(input, 0), input.len())
 }
 
 // Lays the text at `at` and returns where it ends.

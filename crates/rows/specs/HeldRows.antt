@@ -10,6 +10,7 @@ use borrow.Author.Tests.{lt-ltb, le-ltb}
 use lib.Dec.{eqb, ltb}
 use lib.ListN.{getD, replicate}
 use Rattle.logic.specs.Lists.{tabulate}
+use Rattle.logic.specs.Refusals.{unless}
 use Rattle.parts.specs.Numbers.{byteAt}
 use Rattle.counting.specs.Trees as Counting
 use Rattle.description.specs.Literals.{Literal, pos, neg, literal, code, literal-code}
@@ -49,6 +50,19 @@ given x = record { role = x .role .0; qualifier = literal (x .qualifier); side =
 abbrev pub heldRow : Option Theory.Row → RowOf
 heldRow none = Nothing
 heldRow (some R) = Is (held R)
+
+-- the paper's number of each case: a literal in a counting step that gives no row is 17
+abbrev pub rowRefusal : RowOf → Option ℕ
+rowRefusal (Is x) = none
+rowRefusal Nothing = some 17
+
+abbrev pub there : Option Theory.Row → Bool
+there none = false
+there (some R) = true
+
+row-told : (o : Option Theory.Row) (x : RowOf) → x ≡ heldRow o → (x ≡ heldRow o) × (rowRefusal x ≡ unless (there o) 17 none)
+row-told none x e = (e, ap rowRefusal e)
+row-told (some R) x e = (e, ap rowRefusal e)
 
 abbrev pub noRow : Row
 noRow = record { role = record { 0 = 0 }; qualifier = 0; bound = 0; side = Lower }
@@ -119,8 +133,8 @@ concept-row false (every r l) = refl
 concept-row false (atLeast r l n) = refl
 
 pub row-read : (cs : List ℕ) (l : ℕ) (x : RowOf) (c d : Concept) → c ≡ conceptAt cs (l / 2) → c ≡ d → x ≡ conceptRow (eqb (l % 2) 1) d
-    → x ≡ heldRow (rowOf (describe [] cs []) (literal l))
-row-read cs l x c d p q e = e ∙ ap (conceptRow (eqb (l % 2) 1)) (sym q ∙ p) ∙ concept-row (eqb (l % 2) 1) (entryOfFields (fieldsAt cs (l / 2))) ∙ ap heldRow (literal-row cs l)
+    → (x ≡ heldRow (rowOf (describe [] cs []) (literal l))) × (rowRefusal x ≡ unless (there (rowOf (describe [] cs []) (literal l))) 17 none)
+row-read cs l x c d p q e = row-told (rowOf (describe [] cs []) (literal l)) x (e ∙ ap (conceptRow (eqb (l % 2) 1)) (sym q ∙ p) ∙ concept-row (eqb (l % 2) 1) (entryOfFields (fieldsAt cs (l / 2))) ∙ ap heldRow (literal-row cs l))
 
 -- the bound of an "at least" that was read
 pub count-few : (c : Concept) (m : Count) → boundIn c < 65536 → c ≡ AtLeast m → m .bound < 65536

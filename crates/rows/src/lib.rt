@@ -1,14 +1,16 @@
 // The rows of a counting step: read from the table, held in an array, and lent as a slice.
 ghost use mathlib.Core.Path.{_≡_};
 ghost use mathlib.Core.List.{[]};
+ghost use mathlib.Core.Option.{none};
 ghost use Prim.Native.Nat.{ℕ, _<_, _≤_, _^_};
 ghost use lib.ListN.{length, getD};
+ghost use Rattle.logic.specs.Refusals.{unless};
 ghost use Rattle.description.specs.Literals.{literal};
 ghost use Rattle.tables.specs.Tables.{describe};
 ghost use Rattle.parts.specs.Numbers.{upTo};
 ghost use Rattle.list_form.specs.ListForm.{bytesAt};
 ghost use Rattle.refutation.specs.Cells.{rowOf, rowsOf};
-ghost use Rattle.rows.specs.HeldRows.{noRow, heldAt, heldRow, everyRow, countRow, rowsHeld, rowIn};
+ghost use Rattle.rows.specs.HeldRows.{noRow, heldAt, heldRow, rowRefusal, there, everyRow, countRow, rowsHeld, rowIn};
 use nodes::opposite;
 use parts::byte;
 use parts::up_to;
@@ -97,7 +99,7 @@ fn count_row(m: Count, denied: bool) -> RowOf
 
 // The row that literal `l` gives.
 pub fn row_of(cs: &[u8], l: u8) -> RowOf
-    ensures { λ r. ⌜ r ≡ heldRow (rowOf (describe [] (now (cs .entry)) []) (literal l)) ⌝ }
+    ensures { λ r. ⌜ (r ≡ heldRow (rowOf (describe [] (now (cs .entry)) []) (literal l))) × (rowRefusal r ≡ unless (there (rowOf (describe [] (now (cs .entry)) []) (literal l))) 17 none) ⌝ }
 {
     let concept = concept_at(cs, EntryNo(l / 2));
     let denied = l % 2 == 1;

@@ -1,5 +1,5 @@
-use mathlib.Core.Path.{refl}
 use Rattle.logic.specs.Sets.{nonempty}
+use Rattle.edges.specs.EdgeSteps.{edge-read}
 use borrow.Author.Needs.{needs}
 use Rattle.edges.proofs.edge_ok.Statement.{statement}
 use Rattle.edges.proofs.edge_ok.Tie as tie
@@ -16,7 +16,7 @@ upward-requires c κs = search needs
 
 returns : tie.Need-returns
 unfolding nonempty
-returns c = rw (c .before .before .before .before .before .fits16 .ensures, c .before .before .before .before .upward .ensures) refl
+returns c = let p = c .before .before .before .before .before .before .args in edge-read (p .a) (p .n) (p .size) (p .e) _ _ (c .before .before .before .before .before .before .pre) (c .before .before .before .before .before .fits16 .ensures) (c .before .before .before .before .upward .ensures)
 
 pub edge-ok-spec : {M : Type 1} → statement M
 edge-ok-spec = tie.close (tie.spec fits16-requires upward-requires returns)

@@ -1,15 +1,14 @@
 use mathlib.Core.Path.{_∙_, sym}
 use borrow.Author.Tests.{not-true, not-false}
 use Rattle.labels.specs.Labels.{valueOf}
-use Rattle.graph_check.specs.GraphSteps.{stops-11, stops-12, stops-13, stops-14, stops-15, stops-nowhere}
+use Rattle.graph_check.specs.GraphSteps.{stops-11, stops-12, stops-13, goes-on}
 use borrow.Author.Needs.{needs}
 use Rattle.graph_check.proofs.test_node.Statement.{statement}
 use Rattle.graph_check.proofs.test_node.Tie as tie
 use Rattle.graph_check.proofs.test_node.Reads as reads
 use Rattle.graph_check.proofs.test_node.Lts as lts
 use Rattle.edges.proofs.edges_ok.Reads as edges-ok-reads
-use Rattle.fillers.proofs.counts_ok.Reads as counts-ok-reads
-use Rattle.fillers.proofs.everys_ok.Reads as everys-ok-reads
+use Rattle.fillers.proofs.test_fillers.Reads as test-fillers-reads
 use Rattle.nodes.proofs.boths_ok.Reads as boths-ok-reads
 use Rattle.nodes.proofs.label_ok.Reads as label-ok-reads
 
@@ -31,20 +30,12 @@ edges-ok-requires c κs = search needs
 returns-3 : tie.Need-returns-3
 returns-3 c = stops-13 (c .before .before .before .before .before .before .before .before .before .before .before .args .rs .now) (c .before .before .before .before .before .before .before .before .before .before .before .args .cs .now) (c .before .before .before .before .before .before .before .before .before .before .before .args .qs .now) (c .before .before .before .before .before .before .before .before .before .before .before .args .a) (c .before .before .before .before .before .before .before .before .before .before .before .args .s .now) (c .before .before .before .before .before .before .before .before .before .before .before .args .n) (c .before .before .before .before .before .before .before .before .before .before .before .args .i) (valueOf (c .before .before .before .before .before .before .before .before .before .before .before .args .x)) (c .before .before .before .before .before .before .before .before .before .before .before .args .es .now) (sym (c .before .before .before .before .before .label-ok .ensures) ∙ not-false _ (c .before .before .before .before .if1 .left)) (sym (c .before .before .before .boths-ok .ensures) ∙ not-false _ (c .before .before .if2 .left)) (sym (c .before .edges-ok .ensures) ∙ not-true _ (c .if3 .taken))
 
-everys-ok-requires : tie.Need-everys-ok-requires
-everys-ok-requires c κs = search needs
+test-fillers-requires : tie.Need-test-fillers-requires
+test-fillers-requires c κs = search needs
 
 returns-4 : tie.Need-returns-4
-returns-4 c = stops-14 (c .before .before .before .before .before .before .before .before .before .before .before .before .before .args .rs .now) (c .before .before .before .before .before .before .before .before .before .before .before .before .before .args .cs .now) (c .before .before .before .before .before .before .before .before .before .before .before .before .before .args .qs .now) (c .before .before .before .before .before .before .before .before .before .before .before .before .before .args .a) (c .before .before .before .before .before .before .before .before .before .before .before .before .before .args .s .now) (c .before .before .before .before .before .before .before .before .before .before .before .before .before .args .n) (c .before .before .before .before .before .before .before .before .before .before .before .before .before .args .i) (valueOf (c .before .before .before .before .before .before .before .before .before .before .before .before .before .args .x)) (c .before .before .before .before .before .before .before .before .before .before .before .before .before .args .es .now) (sym (c .before .before .before .before .before .before .before .label-ok .ensures) ∙ not-false _ (c .before .before .before .before .before .before .if1 .left)) (sym (c .before .before .before .before .before .boths-ok .ensures) ∙ not-false _ (c .before .before .before .before .if2 .left)) (sym (c .before .before .before .edges-ok .ensures) ∙ not-false _ (c .before .before .if3 .left)) (sym (c .before .everys-ok .ensures) ∙ not-true _ (c .if4 .taken))
-
-counts-ok-requires : tie.Need-counts-ok-requires
-counts-ok-requires c κs = search needs
-
-returns-5 : tie.Need-returns-5
-returns-5 c = stops-15 (c .before .before .before .before .before .before .before .before .before .before .before .before .before .before .before .args .rs .now) (c .before .before .before .before .before .before .before .before .before .before .before .before .before .before .before .args .cs .now) (c .before .before .before .before .before .before .before .before .before .before .before .before .before .before .before .args .qs .now) (c .before .before .before .before .before .before .before .before .before .before .before .before .before .before .before .args .a) (c .before .before .before .before .before .before .before .before .before .before .before .before .before .before .before .args .s .now) (c .before .before .before .before .before .before .before .before .before .before .before .before .before .before .before .args .n) (c .before .before .before .before .before .before .before .before .before .before .before .before .before .before .before .args .i) (valueOf (c .before .before .before .before .before .before .before .before .before .before .before .before .before .before .before .args .x)) (c .before .before .before .before .before .before .before .before .before .before .before .before .before .before .before .args .es .now) (sym (c .before .before .before .before .before .before .before .before .before .label-ok .ensures) ∙ not-false _ (c .before .before .before .before .before .before .before .before .if1 .left)) (sym (c .before .before .before .before .before .before .before .boths-ok .ensures) ∙ not-false _ (c .before .before .before .before .before .before .if2 .left)) (sym (c .before .before .before .before .before .edges-ok .ensures) ∙ not-false _ (c .before .before .before .before .if3 .left)) (sym (c .before .before .before .everys-ok .ensures) ∙ not-false _ (c .before .before .if4 .left)) (sym (c .before .counts-ok .ensures) ∙ not-true _ (c .if5 .taken))
-
-returns-6 : tie.Need-returns-6
-returns-6 c = stops-nowhere (c .before .before .before .before .before .before .before .before .before .before .before .before .before .before .before .args .rs .now) (c .before .before .before .before .before .before .before .before .before .before .before .before .before .before .before .args .cs .now) (c .before .before .before .before .before .before .before .before .before .before .before .before .before .before .before .args .qs .now) (c .before .before .before .before .before .before .before .before .before .before .before .before .before .before .before .args .a) (c .before .before .before .before .before .before .before .before .before .before .before .before .before .before .before .args .s .now) (c .before .before .before .before .before .before .before .before .before .before .before .before .before .before .before .args .n) (c .before .before .before .before .before .before .before .before .before .before .before .before .before .before .before .args .i) (valueOf (c .before .before .before .before .before .before .before .before .before .before .before .before .before .before .before .args .x)) (c .before .before .before .before .before .before .before .before .before .before .before .before .before .before .before .args .es .now) (sym (c .before .before .before .before .before .before .before .before .before .label-ok .ensures) ∙ not-false _ (c .before .before .before .before .before .before .before .before .if1 .left)) (sym (c .before .before .before .before .before .before .before .boths-ok .ensures) ∙ not-false _ (c .before .before .before .before .before .before .if2 .left)) (sym (c .before .before .before .before .before .edges-ok .ensures) ∙ not-false _ (c .before .before .before .before .if3 .left)) (sym (c .before .before .before .everys-ok .ensures) ∙ not-false _ (c .before .before .if4 .left)) (sym (c .before .counts-ok .ensures) ∙ not-false _ (c .if5 .left))
+returns-4 c = let p = c .before .before .before .before .before .before .before .before .before .before .before .before .args in c .test-fillers .ensures ∙ goes-on (p .rs .now) (p .cs .now) (p .qs .now) (p .a) (p .s .now) (p .n) (p .i) (valueOf (p .x)) (p .es .now)
+    (p .src) (c .before .before .before .before .before .before .before .before .before .before .before .before .pre) (sym (c .before .before .before .before .before .before .label-ok .ensures) ∙ not-false _ (c .before .before .before .before .before .if1 .left)) (sym (c .before .before .before .before .boths-ok .ensures) ∙ not-false _ (c .before .before .before .if2 .left)) (sym (c .before .before .edges-ok .ensures) ∙ not-false _ (c .before .if3 .left))
 
 pub test-node-spec : {M : Type 1} → statement M
 test-node-spec =
@@ -56,8 +47,5 @@ test-node-spec =
     returns-2
     edges-ok-requires
     returns-3
-    everys-ok-requires
-    returns-4
-    counts-ok-requires
-    returns-5
-    returns-6)
+    test-fillers-requires
+    returns-4)

@@ -11,19 +11,23 @@ use Rattle.graph_check.proofs.test_records.Statement.{statement}
 use Rattle.graph_check.proofs.test_records.Tie as tie
 use Rattle.graph_check.proofs.test_records.Reads as reads
 use Rattle.graph_check.proofs.test_records.Lts as lts
+use Rattle.fillers.proofs.sources.Reads as sources-reads
 use Rattle.graph_check.proofs.test_record.Reads as test-record-reads
 
 abbrev Inv-loop : tie.InvT-loop
-Inv-loop rs cs qs a s n i₀ i = (i ≤ n) × (refuseFrom (recordCode rs cs qs a s n) (n - i) i none ≡ refuseFrom (recordCode rs cs qs a s n) n 0 none)
+Inv-loop rs cs qs a s n src i₀ i = (i ≤ n) × (refuseFrom (recordCode rs cs qs a s n) (n - i) i none ≡ refuseFrom (recordCode rs cs qs a s n) n 0 none)
 
 abbrev μ-loop : tie.MeasureT-loop
-μ-loop rs cs qs a s n i₀ i = n - i
+μ-loop rs cs qs a s n src i₀ i = n - i
+
+sources-requires : tie.Need-sources-requires Inv-loop μ-loop
+sources-requires c κs = search needs
 
 loop-holds : tie.Need-loop-holds Inv-loop μ-loop
 loop-holds c = (omega arith, records-start _ _ _)
 
 test-record-requires : tie.Need-test-record-requires Inv-loop μ-loop
-test-record-requires c κs = search needs
+test-record-requires c κs = c .before .before .sources .ensures
 
 enum-told : tie.Need-enum-told Inv-loop μ-loop
 enum-told c = search needs
@@ -52,6 +56,7 @@ test-records-spec =
     (tie.spec
     Inv-loop
     μ-loop
+    sources-requires
     loop-holds
     test-record-requires
     enum-told

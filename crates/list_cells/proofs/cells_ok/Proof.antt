@@ -3,45 +3,55 @@ use mathlib.Core.Path.{_≡_, _∙_, sym, ap}
 use mathlib.Core.Bool.{Bool, true}
 use native.Mathlib.Omega.{arith}
 use lib.Pow.{pow-pos}
-use borrow.Author.Needs.{needs}
 use borrow.Author.Tests.{not-true, not-false}
 use Rattle.logic.specs.Bounded.{allBelow, all-stop, all-more, all-done}
 use Rattle.labels.specs.Labels.{valueOf}
 use Rattle.rows.specs.HeldRows.{rowsHeld}
 use Rattle.parts.specs.Numbers.{upTo}
-use Rattle.list_cells.specs.CellSteps.{entryIn, cellsOn, cellsCode}
-use Rattle.list_cells.specs.CellLaws.{no-cell, cell-at, cells-told}
+use Rattle.list_cells.specs.CellSteps.{entryIn, cellsCode}
+use Rattle.list_cells.specs.CellRows.{gatheredOn, no-cell, cell-at}
+use Rattle.list_cells.specs.CellGathered.{cells-told}
+use borrow.Author.Needs.{needs}
 use Rattle.list_cells.proofs.cells_ok.Statement.{statement}
 use Rattle.list_cells.proofs.cells_ok.Tie as tie
 use Rattle.list_cells.proofs.cells_ok.Reads as reads
 use Rattle.list_cells.proofs.cells_ok.Lts as lts
+use Rattle.list_cells.proofs.above_of.Reads as above-of-reads
+use Rattle.list_cells.proofs.against_of.Reads as against-of-reads
 use Rattle.list_cells.proofs.carried_entries.Reads as carried-entries-reads
 use Rattle.list_cells.proofs.cell_ok.Reads as cell-ok-reads
+use Rattle.list_cells.proofs.own_of.Reads as own-of-reads
+use Rattle.list_cells.proofs.shown_of.Reads as shown-of-reads
 use Rattle.parts.proofs.byte.Reads as byte-reads
 use Rattle.parts.proofs.up_to.Reads as up-to-reads
 use Rattle.rows.proofs.cell_count.Reads as cell-count-reads
 
 abbrev Inv-loop : tie.InvT-loop
-Inv-loop rs cs a s x rows k ds n end on c₀ c = (1 ≤ c) × (c ≤ end) × (end ≤ 64) × (n ≤ 6) × (end ≡ 2 ^ n) × (allBelow c (cellsOn cs a s (valueOf x) (entryIn (valueOf on)) (rowsHeld rows n) ds n) ≡ true)
+Inv-loop rs cs s k ds n end shown against above own c₀ c = (1 ≤ c) × (c ≤ end) × (end ≤ 64) × (n ≤ 6) × (end ≡ 2 ^ n) × (allBelow c (gatheredOn s above own shown against ds n) ≡ true)
 
 abbrev μ-loop : tie.MeasureT-loop
-μ-loop rs cs a s x rows k ds n end on c₀ c = end - c
+μ-loop rs cs s k ds n end shown against above own c₀ c = end - c
 
--- the test of the cells with what is read before the loop
-abbrev test : tie.After-carried-entries Inv-loop μ-loop → ℕ → Bool
-test c = let g = c .before .before .before .before .before .before .before .args in let n = c .before .before .up-to .result in
-    cellsOn (g .cs .now) (g .a) (g .s .now) (valueOf (g .x)) (entryIn (valueOf (c .carried-entries .result))) (rowsHeld (g .rows) n) (g .ds .now) n
+-- what is read before the loop
+abbrev found : tie.After-own-of Inv-loop μ-loop → tie.After-carried-entries Inv-loop μ-loop
+found c = c .before .before .before .before
 
-told : (c : tie.After-carried-entries Inv-loop μ-loop) (t : Bool) → allBelow (2 ^ c .before .before .up-to .result) (test c) ≡ t
-    → let g = c .before .before .before .before .before .before .before .args in
+-- the test of the cells by the arrays that are filled before the loop
+abbrev test : tie.After-own-of Inv-loop μ-loop → ℕ → Bool
+test c = let g = found c .before .before .before .before .before .before .before .args in
+    gatheredOn (g .s .now) (c .before .above-of .result) (c .own-of .result) (c .before .before .before .shown-of .result) (c .before .before .against-of .result) (g .ds .now) (found c .before .before .up-to .result)
+
+told : (c : tie.After-own-of Inv-loop μ-loop) (t : Bool) → allBelow (2 ^ found c .before .before .up-to .result) (test c) ≡ t
+    → let g = found c .before .before .before .before .before .before .before .args in
     t ≡ cellsCode (g .rs .now) (g .cs .now) (g .a) (g .s .now) (valueOf (g .x)) (rowsHeld (g .rows) (upTo 6 (g .k))) (g .ds .now) (upTo 6 (g .k))
-told c t h = let g = c .before .before .before .before .before .before .before .args in
-    cells-told (g .rs .now) (g .cs .now) (g .a) (g .s .now) (valueOf (g .x)) (entryIn (valueOf (c .carried-entries .result))) (g .rows) (g .ds .now) _ _ t (c .before .before .up-to .ensures .0)
-    (c .carried-entries .ensures) h
+told c t h = let b = found c in let g = b .before .before .before .before .before .before .before .args in let n = b .before .before .up-to in
+    cells-told (g .cs .now) (g .a) (valueOf (g .x)) (entryIn (valueOf (b .carried-entries .result))) (g .rows) (n .result) (n .ensures .1) _ _ _ _
+    (c .before .before .before .shown-of .ensures) (c .before .before .against-of .ensures) (c .before .above-of .ensures .0) (c .own-of .ensures) (c .before .above-of .ensures .1)
+    (g .rs .now) (g .s .now) (g .ds .now) (b .carried-entries .ensures) _ t (n .ensures .0) h
 
 here : (c : tie.After-cell-ok Inv-loop μ-loop) → c .cell-ok .result ≡ test (c .before .before .before .before) (c .before .before .before .loop .c)
-here c = let e = c .before .before .before .before in let g = e .before .before .before .before .before .before .before .args in
-    cell-at (g .cs .now) (g .a) (g .s .now) (valueOf (g .x)) (entryIn (valueOf (e .carried-entries .result))) (rowsHeld (g .rows) (e .before .before .up-to .result)) (g .ds .now) (e .before .before .up-to .result)
+here c = let e = c .before .before .before .before in let b = found e in let g = b .before .before .before .before .before .before .before .args in
+    cell-at (g .s .now) (e .before .above-of .result) (e .own-of .result) (e .before .before .before .shown-of .result) (e .before .before .against-of .result) (g .ds .now) (b .before .before .up-to .result)
     (c .before .before .before .loop .c) _ _ (omega arith) (c .before .byte .ensures) (c .cell-ok .ensures)
 
 up-to-requires : tie.Need-up-to-requires Inv-loop μ-loop
@@ -53,9 +63,21 @@ cell-count-requires c κs = search needs
 carried-entries-requires : tie.Need-carried-entries-requires Inv-loop μ-loop
 carried-entries-requires c κs = search needs
 
+shown-of-requires : tie.Need-shown-of-requires Inv-loop μ-loop
+shown-of-requires c κs = search needs
+
+against-of-requires : tie.Need-against-of-requires Inv-loop μ-loop
+against-of-requires c κs = search needs
+
+above-of-requires : tie.Need-above-of-requires Inv-loop μ-loop
+above-of-requires c κs = search needs
+
+own-of-requires : tie.Need-own-of-requires Inv-loop μ-loop
+own-of-requires c κs = search needs
+
 loop-holds : tie.Need-loop-holds Inv-loop μ-loop
-loop-holds c = let g = c .before .before .before .before .before .before .before .args in let e = c .before .cell-count .ensures .0 ∙ ap (λ m. 2 ^ m) (sym (c .before .before .up-to .ensures .0)) in let p = pow-pos (c .before .before .up-to .result) in
-    (omega arith, omega (arith, e, p), c .before .cell-count .ensures .1, c .before .before .up-to .ensures .1, e, no-cell (g .cs .now) (g .a) (g .s .now) (valueOf (g .x)) _ _ (g .ds .now) (c .before .before .up-to .result))
+loop-holds c = let b = found c in let n = b .before .before .up-to in let e = b .before .cell-count .ensures .0 ∙ ap (λ m. 2 ^ m) (sym (n .ensures .0)) in let p = pow-pos (n .result) in
+    (omega arith, omega (arith, e, p), b .before .cell-count .ensures .1, n .ensures .1, e, no-cell (b .before .before .before .before .before .before .before .args .s .now) (c .before .above-of .result) (c .own-of .result) (c .before .before .before .shown-of .result) (c .before .before .against-of .result) (b .before .before .before .before .before .before .before .args .ds .now) (n .result))
 
 cast-loop : tie.Need-cast-loop Inv-loop μ-loop
 cast-loop c = search needs
@@ -103,6 +125,10 @@ cells-ok-spec =
     up-to-requires
     cell-count-requires
     carried-entries-requires
+    shown-of-requires
+    against-of-requires
+    above-of-requires
+    own-of-requires
     loop-holds
     cast-loop
     cast-byte

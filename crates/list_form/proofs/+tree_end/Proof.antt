@@ -60,7 +60,7 @@ tree-end-returns : (t : ℕ) → tree-end-lts.Need-returns (
   tree-end-below t,
   tree-end.Post,
 ) (tree-end-at t) tree-end.Post
-tree-end-returns t c = let p = c .before .before .before .before .before .args in tree-deep (p .ds .now) (p .limits) (p .at) (p .left) (omega arith) (sym (c .before .enum-told2 .given .1) ∙ c .before .before .before .read-node .ensures)
+tree-end-returns t c = let p = c .before .before .before .before .before .args in tree-deep (p .ds .now) (p .limits) (p .at) (p .left) (omega arith) (sym (c .before .enum-told2 .given .1) ∙ c .before .before .before .read-node .ensures .0)
 
 tree-end-sub-tree-end : (t : ℕ) → tree-end-lts.Need-sub-tree-end (
   read-node-reads.Asked,
@@ -84,7 +84,7 @@ tree-end-add-tree-end-2 : (t : ℕ) → tree-end-lts.Need-add-tree-end-2 (
   tree-end-below t,
   tree-end.Post,
 ) (tree-end-at t) tree-end.Post
-tree-end-add-tree-end-2 t c = let p = c .before .before .before .before .before .args in let r = split-room (p .ds .now) (p .limits) (p .at) (sym (c .before .enum-told2 .given .1) ∙ c .before .before .before .read-node .ensures) in omega arith
+tree-end-add-tree-end-2 t c = let p = c .before .before .before .before .before .args in let r = split-room (p .ds .now) (p .limits) (p .at) (sym (c .before .enum-told2 .given .1) ∙ c .before .before .before .read-node .ensures .0) in omega arith
 
 tree-end-tree-end-requires : (t : ℕ) → tree-end-lts.Need-tree-end-requires (
   read-node-reads.Asked,
@@ -94,29 +94,13 @@ tree-end-tree-end-requires : (t : ℕ) → tree-end-lts.Need-tree-end-requires (
 ) (tree-end-at t) tree-end.Post
 tree-end-tree-end-requires t c κs = (omega arith, omega arith)
 
-tree-end-enum-known-first : (t : ℕ) → tree-end-lts.Need-enum-known-first (
-  read-node-reads.Asked,
-  read-node-reads.Learnt,
-  tree-end-below t,
-  tree-end.Post,
-) (tree-end-at t) tree-end.Post
-tree-end-enum-known-first t c = search needs
-
-tree-end-enum-told-3 : (t : ℕ) → tree-end-lts.Need-enum-told-3 (
-  read-node-reads.Asked,
-  read-node-reads.Learnt,
-  tree-end-below t,
-  tree-end.Post,
-) (tree-end-at t) tree-end.Post
-tree-end-enum-told-3 t c = search needs
-
 tree-end-returns-2 : (t : ℕ) → tree-end-lts.Need-returns-2 (
   read-node-reads.Asked,
   read-node-reads.Learnt,
   tree-end-below t,
   tree-end.Post,
 ) (tree-end-at t) tree-end.Post
-tree-end-returns-2 t c = let p = c .before .before .before .before .before .before .before .before .args in tree-first (p .ds .now) (p .limits) (p .at) (p .left) (sym (c .before .before .before .before .enum-told2 .given .1) ∙ c .before .before .before .before .before .before .read-node .ensures) (λ e. omega arith) (sym (c .enum-told3 .given .1) ∙ c .before .before .tree-end .ensures)
+tree-end-returns-2 t c = let b = c .before .before in let p = b .before .before .before .before .before .args in tree-first (p .ds .now) (p .limits) (p .at) (p .left) (c .before .tree-end .result) (sym (b .before .enum-told2 .given .1) ∙ b .before .before .before .read-node .ensures .0) (λ e. omega arith) (c .if2 .taken) (c .before .tree-end .ensures)
 
 tree-end-sub-tree-end-2 : (t : ℕ) → tree-end-lts.Need-sub-tree-end-2 (
   read-node-reads.Asked,
@@ -148,7 +132,7 @@ tree-end-returns-3 : (t : ℕ) → tree-end-lts.Need-returns-3 (
   tree-end-below t,
   tree-end.Post,
 ) (tree-end-at t) tree-end.Post
-tree-end-returns-3 t c = let p = c .before .before .before .before .args in tree-off (p .ds .now) (p .limits) (p .at) (p .left) (sym (c .enum-told .given .1) ∙ c .before .before .read-node .ensures)
+tree-end-returns-3 t c = let p = c .before .before .before .before .args in tree-off (p .ds .now) (p .limits) (p .at) (p .left) (sym (c .enum-told .given .1) ∙ c .before .before .read-node .ensures .0)
 
 tree-end-returns-4 : (t : ℕ) → tree-end-lts.Need-returns-4 (
   read-node-reads.Asked,
@@ -156,7 +140,7 @@ tree-end-returns-4 : (t : ℕ) → tree-end-lts.Need-returns-4 (
   tree-end-below t,
   tree-end.Post,
 ) (tree-end-at t) tree-end.Post
-tree-end-returns-4 t c = let p = c .before .before .before .before .before .args in tree-leaf (p .ds .now) (p .limits) (p .at) (p .left) _ (sym (c .before .node .given .1) ∙ c .before .before .before .read-node .ensures)
+tree-end-returns-4 t c = let p = c .before .before .before .before .before .args in tree-leaf (p .ds .now) (p .limits) (p .at) (p .left) _ (sym (c .before .node .given .1) ∙ c .before .before .before .read-node .ensures .0)
 
 tree-end-returns-5 : (t : ℕ) → tree-end-lts.Need-returns-5 (
   read-node-reads.Asked,
@@ -164,7 +148,7 @@ tree-end-returns-5 : (t : ℕ) → tree-end-lts.Need-returns-5 (
   tree-end-below t,
   tree-end.Post,
 ) (tree-end-at t) tree-end.Post
-tree-end-returns-5 t c = let p = c .before .before .before .before .before .before .before .before .before .before .args in tree-second (p .ds .now) (p .limits) (p .at) (p .left) (c .before .before .first .given .0 .0) _ (sym (c .before .before .before .before .before .before .enum-told2 .given .1) ∙ c .before .before .before .before .before .before .before .before .read-node .ensures) (λ e. omega arith) (sym (c .before .before .first .given .1) ∙ c .before .before .before .before .tree-end .ensures) (c .tree-end2 .ensures)
+tree-end-returns-5 t c = let f = c .before .before in let b = f .before in let p = b .before .before .before .before .before .args in tree-second (p .ds .now) (p .limits) (p .at) (p .left) (f .tree-end .result) _ (sym (b .before .enum-told2 .given .1) ∙ b .before .before .before .read-node .ensures .0) (λ e. omega arith) (c .before .if2 .left) (f .tree-end .ensures) (c .tree-end2 .ensures)
 
 pub +tree-end-spec : {M : Type 1} → statement M
 +tree-end-spec = close μ-tree-end λ t. tree-end-lts.spec (
@@ -184,8 +168,6 @@ pub +tree-end-spec : {M : Type 1} → statement M
     (tree-end-add-tree-end t)
     (tree-end-add-tree-end-2 t)
     (tree-end-tree-end-requires t)
-    (tree-end-enum-known-first t)
-    (tree-end-enum-told-3 t)
     (tree-end-returns-2 t)
     (tree-end-sub-tree-end-2 t)
     (tree-end-add-tree-end-3 t)

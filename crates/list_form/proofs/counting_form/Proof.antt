@@ -1,7 +1,5 @@
-use mathlib.Core.Path.{_∙_, sym, ap}
 use native.Mathlib.Omega.{arith}
-use lib.ListN.{length}
-use Rattle.list_form.specs.FormSteps.{ofPlace, rows-none, rows-many, cells-cut, tree-told}
+use Rattle.list_form.specs.FormSteps.{rows-none, rows-many, cells-cut, tree-told}
 use borrow.Author.Needs.{needs}
 use Rattle.list_form.proofs.counting_form.Statement.{statement}
 use Rattle.list_form.proofs.counting_form.Tie as tie
@@ -25,28 +23,10 @@ returns-3 c = let e = c .before .tree-start .ensures in cells-cut (c .before .be
 tree-end-requires : tie.Need-tree-end-requires
 tree-end-requires c κs = search needs
 
-enum-known-place : tie.Need-enum-known-place
-enum-known-place c = search needs
-
-enum-told : tie.Need-enum-told
-enum-told c = search needs
-
 returns-4 : tie.Need-returns-4
-returns-4 c = let p = c .before .before .before .before .before .before .before .before .before .args in let e = c .before .before .before .before .before .tree-start .ensures in ap (ofPlace (length (p .ds .now))) (sym (c .before .place .given .1)) ∙ tree-told (p .ds .now) (p .k) _ _ (omega arith) (omega arith) e (omega arith) (c .before .before .before .tree-end .ensures)
-
-returns-5 : tie.Need-returns-5
-returns-5 c = let p = c .before .before .before .before .before .before .before .before .args in let e = c .before .before .before .before .tree-start .ensures in ap (ofPlace (length (p .ds .now))) (sym (c .enum-told .given .1)) ∙ tree-told (p .ds .now) (p .k) _ _ (omega arith) (omega arith) e (omega arith) (c .before .before .tree-end .ensures)
+returns-4 c = let s = c .before .before in let a = s .before .before .before .before .args in tree-told (a .ds .now) (a .k) (s .tree-start .result) (c .tree-end .result) (omega arith) (omega arith) (s .tree-start .ensures) (omega arith) (c .tree-end .ensures)
 
 pub counting-form-spec : {M : Type 1} → statement M
 counting-form-spec =
     tie.close
-    (tie.spec
-    returns
-    returns-2
-    tree-start-requires
-    returns-3
-    tree-end-requires
-    enum-known-place
-    enum-told
-    returns-4
-    returns-5)
+    (tie.spec returns returns-2 tree-start-requires returns-3 tree-end-requires returns-4)

@@ -1,56 +1,84 @@
-use Prim.Native.Nat.{_-_, _≤_, _^_}
-use mathlib.Core.Path.{_≡_, _∙_, sym}
-use mathlib.Core.Bool.{true}
 use native.Mathlib.Omega.{arith}
 use borrow.Author.Needs.{needs}
-use borrow.Author.Tests.{not-true, not-false}
-use Rattle.logic.specs.Bounded.{allBelow, all-none, all-stop, all-more, all-done}
-use Rattle.list_leaf.specs.Leaf.{balancedAt}
+use Prim.Native.Nat.{ℕ, _-_, _*_, _≤_, _<_}
+use mathlib.Core.Path.{_≡_, sym}
+use lib.ListN.{getD}
+use Rattle.logic.specs.Bounded.{anyBelow, any-none}
+use Rattle.list_leaf.specs.Weights.{unfairAt}
+use Rattle.list_leaf.specs.WeightSteps.{any-next, blocks-done}
+use Rattle.list_leaf.specs.WeightLaws.{eight-most}
 use Rattle.list_leaf.proofs.balanced.Statement.{statement}
 use Rattle.list_leaf.proofs.balanced.Tie as tie
 use Rattle.list_leaf.proofs.balanced.Reads as reads
 use Rattle.list_leaf.proofs.balanced.Lts as lts
-use Rattle.list_leaf.proofs.cell_balanced.Reads as cell-balanced-reads
-use Rattle.list_leaf.proofs.cells_of.Reads as cells-of-reads
+use Rattle.list_leaf.proofs.block_unfair.Reads as block-unfair-reads
+use Rattle.list_leaf.proofs.eight.Reads as eight-reads
 
 abbrev Inv-loop : tie.InvT-loop
-Inv-loop cells k sums n c₀ c = (n ≡ 2 ^ k) × (n ≤ 64) × (c ≤ n) × (allBelow c (balancedAt cells sums) ≡ true)
+Inv-loop sums marks low high off₀ b₀ off b = (b ≤ 8) × ((j : ℕ) → j < 8 → getD low j 0 ≤ 50135040) × ((j : ℕ) → j < 8 → getD high j 0 ≤ 50135040) × ((c : ℕ) → c < 64 → getD sums c 0 ≤ 233963520)
+    × (off ≡ anyBelow b (λ j. anyBelow 8 (unfairAt low (getD high j 0) sums marks (8 * j))))
 
 abbrev μ-loop : tie.MeasureT-loop
-μ-loop cells k sums n c₀ c = n - c
+μ-loop sums marks low high off₀ b₀ off b = 8 - b
 
-cells-of-requires : tie.Need-cells-of-requires Inv-loop μ-loop
-cells-of-requires c κs = search needs
+array-read-eight : tie.Need-array-read-eight Inv-loop μ-loop
+array-read-eight c = search needs
+
+array-read-eight-2 : tie.Need-array-read-eight-2 Inv-loop μ-loop
+array-read-eight-2 c = search needs
+
+array-read-eight-3 : tie.Need-array-read-eight-3 Inv-loop μ-loop
+array-read-eight-3 c = search needs
+
+eight-requires : tie.Need-eight-requires Inv-loop μ-loop
+eight-requires c κs = let m = c .pre .0 in (m 0 (omega arith), m 1 (omega arith), m 2 (omega arith))
+
+array-read-eight-4 : tie.Need-array-read-eight-4 Inv-loop μ-loop
+array-read-eight-4 c = search needs
+
+array-read-eight-5 : tie.Need-array-read-eight-5 Inv-loop μ-loop
+array-read-eight-5 c = search needs
+
+array-read-eight-6 : tie.Need-array-read-eight-6 Inv-loop μ-loop
+array-read-eight-6 c = search needs
+
+eight-requires-2 : tie.Need-eight-requires-2 Inv-loop μ-loop
+eight-requires-2 c κs = let m = c .before .pre .0 in (m 3 (omega arith), m 4 (omega arith), m 5 (omega arith))
 
 loop-holds : tie.Need-loop-holds Inv-loop μ-loop
-loop-holds c = (c .cells-of .ensures .0, c .cells-of .ensures .1, omega arith, all-none _)
+loop-holds c = let s = c .before .before in let m = s .pre .0 in let ps = s .args .t1 in (
+  omega arith,
+  λ j h. rw (c .before .eight .ensures) (eight-most (getD ps 0 0) (getD ps 1 0) (getD ps 2 0) j h (m 0 (omega arith)) (m 1 (omega arith)) (m 2 (omega arith))),
+  λ j h. rw (c .eight2 .ensures) (eight-most (getD ps 3 0) (getD ps 4 0) (getD ps 5 0) j h (m 3 (omega arith)) (m 4 (omega arith)) (m 5 (omega arith))),
+  s .pre .1,
+  sym (any-none _),
+)
 
-mul-cell-balanced : tie.Need-mul-cell-balanced Inv-loop μ-loop
-mul-cell-balanced c = omega arith
+mul-block-unfair : tie.Need-mul-block-unfair Inv-loop μ-loop
+mul-block-unfair c = omega arith
 
-array-read-cell-balanced : tie.Need-array-read-cell-balanced Inv-loop μ-loop
-array-read-cell-balanced c = omega arith
+array-read-block-unfair : tie.Need-array-read-block-unfair Inv-loop μ-loop
+array-read-block-unfair c = omega arith
 
-cell-balanced-requires : tie.Need-cell-balanced-requires Inv-loop μ-loop
-cell-balanced-requires c κs = search needs
+mul-block-unfair-2 : tie.Need-mul-block-unfair-2 Inv-loop μ-loop
+mul-block-unfair-2 c = omega arith
 
-returns : tie.Need-returns Inv-loop μ-loop
-returns c = let a = c .before .before .before .before .before .before .args in let v = c .before .before .before .loop in
-    sym (all-stop (balancedAt (a .cells .now) (a .t3)) (v .c) _ (omega arith) (sym (c .before .cell-balanced .ensures) ∙ not-true _ (c .if1 .taken)))
+block-unfair-requires : tie.Need-block-unfair-requires Inv-loop μ-loop
+block-unfair-requires c κs = let v = c .before .loop in (omega arith, v .inv .2 (v .b) (omega arith), v .inv .1, v .inv .3)
 
-add-c : tie.Need-add-c Inv-loop μ-loop
-add-c c = omega arith
+add-b : tie.Need-add-b Inv-loop μ-loop
+add-b c = omega arith
 
 loop-less : tie.Need-loop-less Inv-loop μ-loop
 loop-less c = omega arith
 
 loop-again : tie.Need-loop-again Inv-loop μ-loop
-loop-again c = let a = c .before .before .before .before .before .before .args in let v = c .before .before .before .loop in
-    (v .inv .0, v .inv .1, omega arith, all-more (balancedAt (a .cells .now) (a .t3)) (v .c) (v .inv .3) (sym (c .before .cell-balanced .ensures) ∙ not-false _ (c .if1 .left)))
+loop-again c = let v = c .before .before .loop in let e = c .before .before .before in let a = e .before .before .args in
+    (omega arith, v .inv .1, v .inv .2, v .inv .3, any-next (λ j. anyBelow 8 (unfairAt (e .before .eight .result) (getD (e .eight2 .result) j 0) (a .sums) (a .marks .now) (8 * j))) (v .b) (v .off) (c .block-unfair .result) (v .inv .4) (c .block-unfair .ensures))
 
-returns-2 : tie.Need-returns-2 Inv-loop μ-loop
-returns-2 c = let a = c .before .before .before .before .args in let v = c .before .loop in
-    sym (all-done (balancedAt (a .cells .now) (a .t3)) (v .c) _ (omega arith) (omega arith) (v .inv .3))
+returns : tie.Need-returns Inv-loop μ-loop
+returns c = let v = c .before .loop in let e = c .before .before in let a = e .before .before .args in
+    blocks-done (a .t1) (a .sums) (a .marks .now) (e .before .eight .result) (e .eight2 .result) (v .b) (v .off) (e .before .eight .ensures) (e .eight2 .ensures) (omega arith) (v .inv .4)
 
 pub balanced-spec : {M : Type 1} → statement M
 balanced-spec =
@@ -58,13 +86,20 @@ balanced-spec =
     (tie.spec
     Inv-loop
     μ-loop
-    cells-of-requires
+    array-read-eight
+    array-read-eight-2
+    array-read-eight-3
+    eight-requires
+    array-read-eight-4
+    array-read-eight-5
+    array-read-eight-6
+    eight-requires-2
     loop-holds
-    mul-cell-balanced
-    array-read-cell-balanced
-    cell-balanced-requires
-    returns
-    add-c
+    mul-block-unfair
+    array-read-block-unfair
+    mul-block-unfair-2
+    block-unfair-requires
+    add-b
     loop-less
     loop-again
-    returns-2)
+    returns)

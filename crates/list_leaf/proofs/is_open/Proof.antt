@@ -1,5 +1,5 @@
 use native.Mathlib.Omega.{arith}
-use Rattle.list_leaf.specs.LeafLaws.{open-zero, open-past, open-at}
+use Rattle.list_leaf.specs.OpenLaws.{open-zero, open-past, open-at}
 use borrow.Author.Needs.{needs}
 use Rattle.list_leaf.proofs.is_open.Statement.{statement}
 use Rattle.list_leaf.proofs.is_open.Tie as tie

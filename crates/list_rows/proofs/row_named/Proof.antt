@@ -33,10 +33,10 @@ enum-told-2 : tie.Need-enum-told-2
 enum-told-2 c = search needs
 
 returns-2 : tie.Need-returns-2
-returns-2 c = let g = c .before .before .before .before .before .before .before .before .args in named-row (g .cs .now) (valueOf (g .x)) (g .ds .now) (g .j) _ (c .before .before .before .before .before .byte .ensures) (sym (c .before .before .before .before .holds .ensures) ∙ not-false _ (c .before .before .before .if1 .left)) _ _ (c .before .before .row-of .ensures) (c .enum-told .given .1)
+returns-2 c = let g = c .before .before .before .before .before .before .before .before .args in named-row (g .cs .now) (valueOf (g .x)) (g .ds .now) (g .j) _ (c .before .before .before .before .before .byte .ensures) (sym (c .before .before .before .before .holds .ensures) ∙ not-false _ (c .before .before .before .if1 .left)) _ _ (c .before .before .row-of .ensures .0) (c .enum-told .given .1)
 
 returns-3 : tie.Need-returns-3
-returns-3 c = let g = c .before .before .before .before .before .before .before .before .args in named-no-row (g .cs .now) (valueOf (g .x)) (g .ds .now) (g .j) _ (c .before .before .before .before .before .byte .ensures) (sym (c .before .before .before .before .holds .ensures) ∙ not-false _ (c .before .before .before .if1 .left)) _ (c .before .before .row-of .ensures) (c .enum-told2 .given .1)
+returns-3 c = let g = c .before .before .before .before .before .before .before .before .args in named-no-row (g .cs .now) (valueOf (g .x)) (g .ds .now) (g .j) _ (c .before .before .before .before .before .byte .ensures) (sym (c .before .before .before .before .holds .ensures) ∙ not-false _ (c .before .before .before .if1 .left)) _ (c .before .before .row-of .ensures .0) (c .enum-told2 .given .1)
 
 pub row-named-spec : {M : Type 1} → statement M
 row-named-spec =

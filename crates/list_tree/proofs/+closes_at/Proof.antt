@@ -1,11 +1,13 @@
 use Prim.Native.Nat.{_+_}
 use mathlib.Core.Path.{_∙_, sym}
-use Rattle.parts.specs.Numbers.{byteAt, num2}
-use Rattle.list_form.specs.FormSteps.{split-room}
-use Rattle.list_leaf.specs.Leaf.{limitsHeld, openByte}
-use Rattle.list_tree.specs.TreeLaws.{closed-off, closed-leaf, closed-deep, closed-first, closed-second, fit-is-split, split-value}
 use native.Mathlib.Omega.{arith}
 use borrow.Author.Needs.{needs}
+use Rattle.parts.specs.Numbers.{byteAt, num2}
+use lib.ListN.{set}
+use Rattle.list_form.specs.FormSteps.{split-room}
+use Rattle.list_leaf.specs.Leaf.{limitsHeld, marked}
+use Rattle.list_tree.specs.TreeLaws.{closed-off, closed-leaf, closed-deep, closed-first, closed-second, fit-is-split, split-value}
+use Rattle.list_tree.specs.HeldLaws.{put-behind, put-again}
 use Prim.Native.Nat.{ℕ, _<_}
 use borrow.Fn.Kinds.{In}
 use borrow.Fn.PlainCycle.{Measures, is, falls, and}
@@ -13,8 +15,8 @@ use Rattle.list_tree.proofs.closes_at.Reads as closes-at
 use Rattle.list_tree.proofs.closes_at.Kinds as closes-at-kinds
 use Rattle.list_tree.proofs.+closes_at.Lts-closes_at as closes-at-lts
 use Rattle.list_tree.proofs.fit_node.Reads as fit-node-reads
-use Rattle.list_tree.proofs.with_high.Reads as with-high-reads
-use Rattle.list_tree.proofs.with_low.Reads as with-low-reads
+use Rattle.list_tree.proofs.high_half.Reads as high-half-reads
+use Rattle.list_tree.proofs.low_half.Reads as low-half-reads
 use Rattle.list_tree.proofs.+closes_at.{statement}
 use Rattle.list_tree.proofs.+closes_at.Tie.{close}
 
@@ -28,271 +30,302 @@ abbrev closes-at-below : ℕ → In 2 closes-at-kinds.ps
 closes-at-below t =
     and 2 closes-at-kinds.ps (falls 2 closes-at-kinds.ps _<_ μ-closes-at t) closes-at.Pre
 
+-- src/lib.rt:134:9
 closes-at-fit-node-requires : (t : ℕ) → closes-at-lts.Need-fit-node-requires (
   fit-node-reads.Asked,
   fit-node-reads.Learnt,
-  with-low-reads.Asked,
-  with-low-reads.Learnt,
+  low-half-reads.Asked,
+  low-half-reads.Learnt,
   closes-at-below t,
   closes-at.Post,
-  with-high-reads.Asked,
-  with-high-reads.Learnt,
+  high-half-reads.Asked,
+  high-half-reads.Learnt,
 ) (closes-at-at t) closes-at.Post
-closes-at-fit-node-requires t c κs = (omega arith, omega arith, omega arith)
+closes-at-fit-node-requires t c κs = (omega arith, omega arith, omega arith, c .before .pre .1 .4)
 
+-- src/lib.rt:136:22
 closes-at-enum-told : (t : ℕ) → closes-at-lts.Need-enum-told (
   fit-node-reads.Asked,
   fit-node-reads.Learnt,
-  with-low-reads.Asked,
-  with-low-reads.Learnt,
+  low-half-reads.Asked,
+  low-half-reads.Learnt,
   closes-at-below t,
   closes-at.Post,
-  with-high-reads.Asked,
-  with-high-reads.Learnt,
+  high-half-reads.Asked,
+  high-half-reads.Learnt,
 ) (closes-at-at t) closes-at.Post
 closes-at-enum-told t c = search needs
 
+-- src/lib.rt:137:20
 closes-at-enum-known-node : (t : ℕ) → closes-at-lts.Need-enum-known-node (
   fit-node-reads.Asked,
   fit-node-reads.Learnt,
-  with-low-reads.Asked,
-  with-low-reads.Learnt,
+  low-half-reads.Asked,
+  low-half-reads.Learnt,
   closes-at-below t,
   closes-at.Post,
-  with-high-reads.Asked,
-  with-high-reads.Learnt,
+  high-half-reads.Asked,
+  high-half-reads.Learnt,
 ) (closes-at-at t) closes-at.Post
 closes-at-enum-known-node t c = search needs
 
+-- src/lib.rt:139:16
 closes-at-enum-told-2 : (t : ℕ) → closes-at-lts.Need-enum-told-2 (
   fit-node-reads.Asked,
   fit-node-reads.Learnt,
-  with-low-reads.Asked,
-  with-low-reads.Learnt,
+  low-half-reads.Asked,
+  low-half-reads.Learnt,
   closes-at-below t,
   closes-at.Post,
-  with-high-reads.Asked,
-  with-high-reads.Learnt,
+  high-half-reads.Asked,
+  high-half-reads.Learnt,
 ) (closes-at-at t) closes-at.Post
 closes-at-enum-told-2 t c = search needs
 
+-- src/lib.rt:140:17
 closes-at-returns : (t : ℕ) → closes-at-lts.Need-returns (
   fit-node-reads.Asked,
   fit-node-reads.Learnt,
-  with-low-reads.Asked,
-  with-low-reads.Learnt,
+  low-half-reads.Asked,
+  low-half-reads.Learnt,
   closes-at-below t,
   closes-at.Post,
-  with-high-reads.Asked,
-  with-high-reads.Learnt,
+  high-half-reads.Asked,
+  high-half-reads.Learnt,
 ) (closes-at-at t) closes-at.Post
-closes-at-returns t c = let b = c .before in let a = b .before .before .before .before .before .args in
-    closed-deep (a .ds .now) (a .k) (openByte (a .cells .now)) (a .n) (limitsHeld (a .k) (a .way) (a .n)) (a .at) (a .left) (omega arith) (sym (b .enum-told2 .given .1) ∙ b .before .before .fit-node .ensures)
+closes-at-returns t c = let b = c .before in let a = b .before .before .before .before .args in closed-deep (a .ds .now) (a .k) (marked (a .marks .now)) (a .n) (limitsHeld (a .k) (a .way) (a .n)) (a .at) (a .left) (omega arith) (sym (b .enum-told2 .given .1) ∙ b .before .before .fit-node .ensures)
 
-closes-at-with-low-requires : (t : ℕ) → closes-at-lts.Need-with-low-requires (
+-- src/lib.rt:143:32
+closes-at-low-half-requires : (t : ℕ) → closes-at-lts.Need-low-half-requires (
   fit-node-reads.Asked,
   fit-node-reads.Learnt,
-  with-low-reads.Asked,
-  with-low-reads.Learnt,
+  low-half-reads.Asked,
+  low-half-reads.Learnt,
   closes-at-below t,
   closes-at.Post,
-  with-high-reads.Asked,
-  with-high-reads.Learnt,
+  high-half-reads.Asked,
+  high-half-reads.Learnt,
 ) (closes-at-at t) closes-at.Post
-closes-at-with-low-requires t c κs = let b = c .before in let s = b .before .before .before .before .before in let a = s .args in
-    let f = fit-is-split (a .ds .now) (a .k) (openByte (a .cells .now)) (a .n) (limitsHeld (a .k) (a .way) (a .n)) (a .at) (sym (b .enum-told2 .given .1) ∙ b .before .before .fit-node .ensures) in
-    (omega arith, s .pre .1 .3, split-room (a .ds .now) (a .n) (a .at) (f .0))
+closes-at-low-half-requires t c κs = let b = c .before in let s = b .before .before .before .before in let a = s .args in let f = fit-is-split (a .ds .now) (a .k) (marked (a .marks .now)) (a .n) (limitsHeld (a .k) (a .way) (a .n)) (a .at) (sym (b .enum-told2 .given .1) ∙ b .before .before .fit-node .ensures) in split-room (a .ds .now) (a .n) (a .at) (f .0)
 
+-- src/lib.rt:143:13
+closes-at-mul-path : (t : ℕ) → closes-at-lts.Need-mul-path (
+  fit-node-reads.Asked,
+  fit-node-reads.Learnt,
+  low-half-reads.Asked,
+  low-half-reads.Learnt,
+  closes-at-below t,
+  closes-at.Post,
+  high-half-reads.Asked,
+  high-half-reads.Learnt,
+) (closes-at-at t) closes-at.Post
+closes-at-mul-path t c = omega arith
+
+-- src/lib.rt:143:13
+closes-at-array-set-from-path : (t : ℕ) → closes-at-lts.Need-array-set-from-path (
+  fit-node-reads.Asked,
+  fit-node-reads.Learnt,
+  low-half-reads.Asked,
+  low-half-reads.Learnt,
+  closes-at-below t,
+  closes-at.Post,
+  high-half-reads.Asked,
+  high-half-reads.Learnt,
+) (closes-at-at t) closes-at.Post
+closes-at-array-set-from-path t c = omega arith
+
+-- src/lib.rt:144:48
 closes-at-sub-closes-at : (t : ℕ) → closes-at-lts.Need-sub-closes-at (
   fit-node-reads.Asked,
   fit-node-reads.Learnt,
-  with-low-reads.Asked,
-  with-low-reads.Learnt,
+  low-half-reads.Asked,
+  low-half-reads.Learnt,
   closes-at-below t,
   closes-at.Post,
-  with-high-reads.Asked,
-  with-high-reads.Learnt,
+  high-half-reads.Asked,
+  high-half-reads.Learnt,
 ) (closes-at-at t) closes-at.Post
 closes-at-sub-closes-at t c = omega arith
 
+-- src/lib.rt:144:64
 closes-at-add-closes-at : (t : ℕ) → closes-at-lts.Need-add-closes-at (
   fit-node-reads.Asked,
   fit-node-reads.Learnt,
-  with-low-reads.Asked,
-  with-low-reads.Learnt,
+  low-half-reads.Asked,
+  low-half-reads.Learnt,
   closes-at-below t,
   closes-at.Post,
-  with-high-reads.Asked,
-  with-high-reads.Learnt,
+  high-half-reads.Asked,
+  high-half-reads.Learnt,
 ) (closes-at-at t) closes-at.Post
 closes-at-add-closes-at t c = omega arith
 
+-- src/lib.rt:144:71
 closes-at-add-closes-at-2 : (t : ℕ) → closes-at-lts.Need-add-closes-at-2 (
   fit-node-reads.Asked,
   fit-node-reads.Learnt,
-  with-low-reads.Asked,
-  with-low-reads.Learnt,
+  low-half-reads.Asked,
+  low-half-reads.Learnt,
   closes-at-below t,
   closes-at.Post,
-  with-high-reads.Asked,
-  with-high-reads.Learnt,
+  high-half-reads.Asked,
+  high-half-reads.Learnt,
 ) (closes-at-at t) closes-at.Post
-closes-at-add-closes-at-2 t c = let b = c .before .before in let a = b .before .before .before .before .before .args in
-    let f = fit-is-split (a .ds .now) (a .k) (openByte (a .cells .now)) (a .n) (limitsHeld (a .k) (a .way) (a .n)) (a .at) (sym (b .enum-told2 .given .1) ∙ b .before .before .fit-node .ensures) in
-    let r = split-room (a .ds .now) (a .n) (a .at) (f .0) in omega arith
+closes-at-add-closes-at-2 t c = let b = c .before .before in let a = b .before .before .before .before .args in let f = fit-is-split (a .ds .now) (a .k) (marked (a .marks .now)) (a .n) (limitsHeld (a .k) (a .way) (a .n)) (a .at) (sym (b .enum-told2 .given .1) ∙ b .before .before .fit-node .ensures) in let r = split-room (a .ds .now) (a .n) (a .at) (f .0) in omega arith
 
+-- src/lib.rt:144:17
 closes-at-closes-at-requires : (t : ℕ) → closes-at-lts.Need-closes-at-requires (
   fit-node-reads.Asked,
   fit-node-reads.Learnt,
-  with-low-reads.Asked,
-  with-low-reads.Learnt,
+  low-half-reads.Asked,
+  low-half-reads.Learnt,
   closes-at-below t,
   closes-at.Post,
-  with-high-reads.Asked,
-  with-high-reads.Learnt,
+  high-half-reads.Asked,
+  high-half-reads.Learnt,
 ) (closes-at-at t) closes-at.Post
-closes-at-closes-at-requires t c κs = (omega arith, (omega arith, omega arith, omega arith, c .with-low .ensures .size))
+closes-at-closes-at-requires t c κs = let s = c .before .before .before .before .before .before in let a = s .args in let p = put-behind (a .way) (a .n) (c .low-half .result) _ (omega arith) (s .pre .1 .3) (c .low-half .ensures) in (omega arith, (omega arith, omega arith, omega arith, p .size, s .pre .1 .4))
 
-closes-at-enum-known-first : (t : ℕ) → closes-at-lts.Need-enum-known-first (
-  fit-node-reads.Asked,
-  fit-node-reads.Learnt,
-  with-low-reads.Asked,
-  with-low-reads.Learnt,
-  closes-at-below t,
-  closes-at.Post,
-  with-high-reads.Asked,
-  with-high-reads.Learnt,
-) (closes-at-at t) closes-at.Post
-closes-at-enum-known-first t c = search needs
-
-closes-at-enum-told-3 : (t : ℕ) → closes-at-lts.Need-enum-told-3 (
-  fit-node-reads.Asked,
-  fit-node-reads.Learnt,
-  with-low-reads.Asked,
-  with-low-reads.Learnt,
-  closes-at-below t,
-  closes-at.Post,
-  with-high-reads.Asked,
-  with-high-reads.Learnt,
-) (closes-at-at t) closes-at.Post
-closes-at-enum-told-3 t c = search needs
-
+-- src/lib.rt:146:17
 closes-at-returns-2 : (t : ℕ) → closes-at-lts.Need-returns-2 (
   fit-node-reads.Asked,
   fit-node-reads.Learnt,
-  with-low-reads.Asked,
-  with-low-reads.Learnt,
+  low-half-reads.Asked,
+  low-half-reads.Learnt,
   closes-at-below t,
   closes-at.Post,
-  with-high-reads.Asked,
-  with-high-reads.Learnt,
+  high-half-reads.Asked,
+  high-half-reads.Learnt,
 ) (closes-at-at t) closes-at.Post
-closes-at-returns-2 t c = let w = c .before .before .before in let b = w .before .before in let s = b .before .before .before .before .before in let a = s .args in
-    closed-first (a .ds .now) (a .k) (openByte (a .cells .now)) (a .n) (limitsHeld (a .k) (a .way) (a .n)) (a .at) (a .left) (sym (b .enum-told2 .given .1) ∙ b .before .before .fit-node .ensures) (w .before .if1 .left)
-    (limitsHeld (a .k) (w .with-low .result) (a .n + 1)) (w .with-low .ensures .held (a .k) (s .pre .1 .1)) (sym (c .enum-told3 .given .1) ∙ c .before .before .closes-at .ensures)
+closes-at-returns-2 t c = let w = c .before .before in let b = w .before .before in let s = b .before .before .before .before in let a = s .args in let p = put-behind (a .way) (a .n) (w .low-half .result) _ (omega (arith, s .pre .1 .2, w .before .if1 .left)) (s .pre .1 .3) (w .low-half .ensures) in closed-first (a .ds .now) (a .k) (marked (a .marks .now)) (a .n) (limitsHeld (a .k) (a .way) (a .n)) (a .at) (a .left) (sym (b .enum-told2 .given .1) ∙ b .before .before .fit-node .ensures) (w .before .if1 .left) (limitsHeld (a .k) (set (a .way) (a .n) (w .low-half .result)) (a .n + 1)) (c .before .closes-at .result) (p .held (a .k) (s .pre .1 .1)) (c .if2 .taken) (c .before .closes-at .ensures)
 
-closes-at-with-high-requires : (t : ℕ) → closes-at-lts.Need-with-high-requires (
+-- src/lib.rt:148:32
+closes-at-high-half-requires : (t : ℕ) → closes-at-lts.Need-high-half-requires (
   fit-node-reads.Asked,
   fit-node-reads.Learnt,
-  with-low-reads.Asked,
-  with-low-reads.Learnt,
+  low-half-reads.Asked,
+  low-half-reads.Learnt,
   closes-at-below t,
   closes-at.Post,
-  with-high-reads.Asked,
-  with-high-reads.Learnt,
+  high-half-reads.Asked,
+  high-half-reads.Learnt,
 ) (closes-at-at t) closes-at.Post
-closes-at-with-high-requires t c κs = let w = c .before .before .before .before in let b = w .before .before in let s = b .before .before .before .before .before in let a = s .args in
-    let f = fit-is-split (a .ds .now) (a .k) (openByte (a .cells .now)) (a .n) (limitsHeld (a .k) (a .way) (a .n)) (a .at) (sym (b .enum-told2 .given .1) ∙ b .before .before .fit-node .ensures) in
-    (omega (arith, s .pre .1 .2, w .before .if1 .left), s .pre .1 .3, split-room (a .ds .now) (a .n) (a .at) (f .0), split-value (a .k) (openByte (a .cells .now)) (byteAt (a .ds .now) (a .at + 1)) (num2 (a .ds .now) (a .at + 2)) (f .1))
+closes-at-high-half-requires t c κs = let w = c .before .before in let b = w .before .before in let s = b .before .before .before .before in let a = s .args in let f = fit-is-split (a .ds .now) (a .k) (marked (a .marks .now)) (a .n) (limitsHeld (a .k) (a .way) (a .n)) (a .at) (sym (b .enum-told2 .given .1) ∙ b .before .before .fit-node .ensures) in (split-room (a .ds .now) (a .n) (a .at) (f .0), split-value (a .k) (marked (a .marks .now)) (byteAt (a .ds .now) (a .at + 1)) (num2 (a .ds .now) (a .at + 2)) (f .1))
 
+-- src/lib.rt:148:13
+closes-at-mul-path-2 : (t : ℕ) → closes-at-lts.Need-mul-path-2 (
+  fit-node-reads.Asked,
+  fit-node-reads.Learnt,
+  low-half-reads.Asked,
+  low-half-reads.Learnt,
+  closes-at-below t,
+  closes-at.Post,
+  high-half-reads.Asked,
+  high-half-reads.Learnt,
+) (closes-at-at t) closes-at.Post
+closes-at-mul-path-2 t c = omega arith
+
+-- src/lib.rt:148:13
+closes-at-array-set-from-path-2 : (t : ℕ) → closes-at-lts.Need-array-set-from-path-2 (
+  fit-node-reads.Asked,
+  fit-node-reads.Learnt,
+  low-half-reads.Asked,
+  low-half-reads.Learnt,
+  closes-at-below t,
+  closes-at.Post,
+  high-half-reads.Asked,
+  high-half-reads.Learnt,
+) (closes-at-at t) closes-at.Post
+closes-at-array-set-from-path-2 t c = let w = c .before .before .before in let s = w .before .before .before .before .before .before in omega (arith, s .pre .1 .2, w .before .if1 .left)
+
+-- src/lib.rt:149:37
 closes-at-sub-closes-at-2 : (t : ℕ) → closes-at-lts.Need-sub-closes-at-2 (
   fit-node-reads.Asked,
   fit-node-reads.Learnt,
-  with-low-reads.Asked,
-  with-low-reads.Learnt,
+  low-half-reads.Asked,
+  low-half-reads.Learnt,
   closes-at-below t,
   closes-at.Post,
-  with-high-reads.Asked,
-  with-high-reads.Learnt,
+  high-half-reads.Asked,
+  high-half-reads.Learnt,
 ) (closes-at-at t) closes-at.Post
 closes-at-sub-closes-at-2 t c = omega arith
 
+-- src/lib.rt:149:53
 closes-at-add-closes-at-3 : (t : ℕ) → closes-at-lts.Need-add-closes-at-3 (
   fit-node-reads.Asked,
   fit-node-reads.Learnt,
-  with-low-reads.Asked,
-  with-low-reads.Learnt,
+  low-half-reads.Asked,
+  low-half-reads.Learnt,
   closes-at-below t,
   closes-at.Post,
-  with-high-reads.Asked,
-  with-high-reads.Learnt,
+  high-half-reads.Asked,
+  high-half-reads.Learnt,
 ) (closes-at-at t) closes-at.Post
-closes-at-add-closes-at-3 t c = let w = c .before .before .before .before .before in let s = w .before .before .before .before .before .before .before in omega (arith, s .pre .1 .2)
+closes-at-add-closes-at-3 t c = let w = c .before .before .before in let s = w .before .before .before .before .before .before in omega (arith, s .pre .1 .2)
 
+-- src/lib.rt:149:13
 closes-at-closes-at-requires-2 : (t : ℕ) → closes-at-lts.Need-closes-at-requires-2 (
   fit-node-reads.Asked,
   fit-node-reads.Learnt,
-  with-low-reads.Asked,
-  with-low-reads.Learnt,
+  low-half-reads.Asked,
+  low-half-reads.Learnt,
   closes-at-below t,
   closes-at.Post,
-  with-high-reads.Asked,
-  with-high-reads.Learnt,
+  high-half-reads.Asked,
+  high-half-reads.Learnt,
 ) (closes-at-at t) closes-at.Post
-closes-at-closes-at-requires-2 t c κs = let w = c .before .before .before .before .before in let s = w .before .before .before .before .before .before .before in
-    (omega (arith, s .pre .0, w .before .if1 .left), (omega (arith, s .pre .1 .0), omega (arith, s .pre .1 .1), omega (arith, s .pre .1 .2, w .before .if1 .left), c .with-high .ensures .size))
+closes-at-closes-at-requires-2 t c κs = let w = c .before .before .before in let s = w .before .before .before .before .before .before in let a = s .args in let p = put-again (a .way) (a .n) (w .low-half .result) (c .high-half .result) _ (omega (arith, s .pre .1 .2, w .before .if1 .left)) (s .pre .1 .3) (c .high-half .ensures) in (omega (arith, s .pre .0, w .before .if1 .left), (omega (arith, s .pre .1 .0), omega (arith, s .pre .1 .1), omega (arith, s .pre .1 .2, w .before .if1 .left), p .size, s .pre .1 .4))
 
+-- src/lib.rt:122:1
 closes-at-returns-3 : (t : ℕ) → closes-at-lts.Need-returns-3 (
   fit-node-reads.Asked,
   fit-node-reads.Learnt,
-  with-low-reads.Asked,
-  with-low-reads.Learnt,
+  low-half-reads.Asked,
+  low-half-reads.Learnt,
   closes-at-below t,
   closes-at.Post,
-  with-high-reads.Asked,
-  with-high-reads.Learnt,
+  high-half-reads.Asked,
+  high-half-reads.Learnt,
 ) (closes-at-at t) closes-at.Post
-closes-at-returns-3 t c = let a = c .before .before .before .before .before .args in
-    closed-off (a .ds .now) (a .k) (openByte (a .cells .now)) (a .n) (limitsHeld (a .k) (a .way) (a .n)) (a .at) (a .left) (sym (c .enum-told .given .1) ∙ c .before .before .fit-node .ensures)
+closes-at-returns-3 t c = let a = c .before .before .before .before .args in closed-off (a .ds .now) (a .k) (marked (a .marks .now)) (a .n) (limitsHeld (a .k) (a .way) (a .n)) (a .at) (a .left) (sym (c .enum-told .given .1) ∙ c .before .before .fit-node .ensures)
 
+-- src/lib.rt:122:1
 closes-at-returns-4 : (t : ℕ) → closes-at-lts.Need-returns-4 (
   fit-node-reads.Asked,
   fit-node-reads.Learnt,
-  with-low-reads.Asked,
-  with-low-reads.Learnt,
+  low-half-reads.Asked,
+  low-half-reads.Learnt,
   closes-at-below t,
   closes-at.Post,
-  with-high-reads.Asked,
-  with-high-reads.Learnt,
+  high-half-reads.Asked,
+  high-half-reads.Learnt,
 ) (closes-at-at t) closes-at.Post
-closes-at-returns-4 t c = let b = c .before in let a = b .before .before .before .before .before .args in
-    closed-leaf (a .ds .now) (a .k) (openByte (a .cells .now)) (a .n) (limitsHeld (a .k) (a .way) (a .n)) (a .at) (a .left) (b .node .given .0 .0) (sym (b .node .given .1) ∙ b .before .before .fit-node .ensures)
+closes-at-returns-4 t c = let b = c .before in let a = b .before .before .before .before .args in closed-leaf (a .ds .now) (a .k) (marked (a .marks .now)) (a .n) (limitsHeld (a .k) (a .way) (a .n)) (a .at) (a .left) (b .node .given .0 .0) (sym (b .node .given .1) ∙ b .before .before .fit-node .ensures)
 
+-- src/lib.rt:122:1
 closes-at-returns-5 : (t : ℕ) → closes-at-lts.Need-returns-5 (
   fit-node-reads.Asked,
   fit-node-reads.Learnt,
-  with-low-reads.Asked,
-  with-low-reads.Learnt,
+  low-half-reads.Asked,
+  low-half-reads.Learnt,
   closes-at-below t,
   closes-at.Post,
-  with-high-reads.Asked,
-  with-high-reads.Learnt,
+  high-half-reads.Asked,
+  high-half-reads.Learnt,
 ) (closes-at-at t) closes-at.Post
-closes-at-returns-5 t c = let h = c .before in let g = h .before in let w = g .before .before .before .before in let b = w .before .before in let s = b .before .before .before .before .before in let a = s .args in
-    closed-second (a .ds .now) (a .k) (openByte (a .cells .now)) (a .n) (limitsHeld (a .k) (a .way) (a .n)) (a .at) (a .left) (sym (b .enum-told2 .given .1) ∙ b .before .before .fit-node .ensures) (w .before .if1 .left)
-    (limitsHeld (a .k) (w .with-low .result) (a .n + 1)) (limitsHeld (a .k) (h .with-high .result) (a .n + 1)) (g .before .first .given .0 .0) (c .closes-at2 .result)
-    (w .with-low .ensures .held (a .k) (s .pre .1 .1)) (h .with-high .ensures .held (a .k) (s .pre .1 .1)) (sym (g .before .first .given .1) ∙ g .before .before .before .closes-at .ensures) (c .closes-at2 .ensures)
+closes-at-returns-5 t c = let h = c .before in let g = h .before .before in let w = g .before in let b = w .before .before in let s = b .before .before .before .before in let a = s .args in let few : a .n < 14 = omega (arith, s .pre .1 .2, w .before .if1 .left) in let p = put-behind (a .way) (a .n) (w .low-half .result) _ few (s .pre .1 .3) (w .low-half .ensures) in let q = put-again (a .way) (a .n) (w .low-half .result) (h .high-half .result) _ few (s .pre .1 .3) (h .high-half .ensures) in closed-second (a .ds .now) (a .k) (marked (a .marks .now)) (a .n) (limitsHeld (a .k) (a .way) (a .n)) (a .at) (a .left) (sym (b .enum-told2 .given .1) ∙ b .before .before .fit-node .ensures) (w .before .if1 .left) (limitsHeld (a .k) (set (a .way) (a .n) (w .low-half .result)) (a .n + 1)) (limitsHeld (a .k) (set (set (a .way) (a .n) (w .low-half .result)) (a .n) (h .high-half .result)) (a .n + 1)) (g .closes-at .result) (c .closes-at2 .result) (p .held (a .k) (s .pre .1 .1)) (q .held (a .k) (s .pre .1 .1)) (h .before .if2 .left) (g .closes-at .ensures) (c .closes-at2 .ensures)
 
 pub +closes-at-spec : {M : Type 1} → statement M
 +closes-at-spec = close μ-closes-at λ t. closes-at-lts.spec (
   fit-node-reads.Asked,
   fit-node-reads.Learnt,
-  with-low-reads.Asked,
-  with-low-reads.Learnt,
+  low-half-reads.Asked,
+  low-half-reads.Learnt,
   closes-at-below t,
   closes-at.Post,
-  with-high-reads.Asked,
-  with-high-reads.Learnt,
+  high-half-reads.Asked,
+  high-half-reads.Learnt,
 )
     (closes-at-at t)
     closes-at.Post
@@ -301,15 +334,17 @@ pub +closes-at-spec : {M : Type 1} → statement M
     (closes-at-enum-known-node t)
     (closes-at-enum-told-2 t)
     (closes-at-returns t)
-    (closes-at-with-low-requires t)
+    (closes-at-low-half-requires t)
+    (closes-at-mul-path t)
+    (closes-at-array-set-from-path t)
     (closes-at-sub-closes-at t)
     (closes-at-add-closes-at t)
     (closes-at-add-closes-at-2 t)
     (closes-at-closes-at-requires t)
-    (closes-at-enum-known-first t)
-    (closes-at-enum-told-3 t)
     (closes-at-returns-2 t)
-    (closes-at-with-high-requires t)
+    (closes-at-high-half-requires t)
+    (closes-at-mul-path-2 t)
+    (closes-at-array-set-from-path-2 t)
     (closes-at-sub-closes-at-2 t)
     (closes-at-add-closes-at-3 t)
     (closes-at-closes-at-requires-2 t)

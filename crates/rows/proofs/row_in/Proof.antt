@@ -28,10 +28,10 @@ no-row-requires : tie.Need-no-row-requires
 no-row-requires c κs = search needs
 
 returns : tie.Need-returns
-returns c = in-row (c .before .before .before .before .before .before .before .args .cs .now) (c .before .before .before .before .before .before .before .args .ds .now) (c .before .before .before .before .before .before .before .args .i) (c .before .before .before .before .byte .result) (c .before .before .before .before .byte .ensures) _ _ (c .before .before .before .row-of .ensures) (c .before .row .given .1)
+returns c = in-row (c .before .before .before .before .before .before .before .args .cs .now) (c .before .before .before .before .before .before .before .args .ds .now) (c .before .before .before .before .before .before .before .args .i) (c .before .before .before .before .byte .result) (c .before .before .before .before .byte .ensures) _ _ (c .before .before .before .row-of .ensures .0) (c .before .row .given .1)
 
 returns-2 : tie.Need-returns-2
-returns-2 c = c .no-row .ensures ∙ in-none (c .before .before .before .before .before .before .before .args .cs .now) (c .before .before .before .before .before .before .before .args .ds .now) (c .before .before .before .before .before .before .before .args .i) (c .before .before .before .before .byte .result) (c .before .before .before .before .byte .ensures) _ (c .before .before .before .row-of .ensures) (c .before .enum-told .given .1)
+returns-2 c = c .no-row .ensures ∙ in-none (c .before .before .before .before .before .before .before .args .cs .now) (c .before .before .before .before .before .before .before .args .ds .now) (c .before .before .before .before .before .before .before .args .i) (c .before .before .before .before .byte .result) (c .before .before .before .before .byte .ensures) _ (c .before .before .before .row-of .ensures .0) (c .before .enum-told .given .1)
 
 pub row-in-spec : {M : Type 1} → statement M
 row-in-spec =

@@ -1,0 +1,100 @@
+/* shq.h: the evidence checker for SHQ line descriptions, for programs in C.
+ *
+ * A description says what a production line is made of and asks for a class. Evidence says that a line with this class can be
+ * built (a sample graph) or that none can (a closing list). docs/FORMAT.md has the bytes of both, examples/firmware.c a use of this.
+ *
+ * Promised, for inputs of every length and every content:
+ *   - each function returns, and its answer is the one that docs/FORMAT.md defines; nothing has to be tested beforehand;
+ *   - only shq_write writes, and only to the buffer: on WRITTEN the bytes of the line and none behind them, on a refusal none at all;
+ *   - no heap and no globals, so that calls may run beside each other; no recursion deeper than 9 calls;
+ *   - description, evidence and line are read where they lie and are never copied.
+ * The first two are proved (docs/DECISIONS.md, 4: what that rests on). Stack is measured, and held below 4,096 bytes a call (docs/COST.md).
+ *
+ * Asked of the caller:
+ *   - each pointer is valid for the length given with it, and is not NULL, not even with length 0;
+ *   - these bytes are changed by nobody else during the call;
+ *   - the buffer overlaps neither the description nor the evidence. Those two may overlap.
+ * The library calls memcpy and memset of the C library and nothing else.
+ */
+#ifndef SHQ_H
+#define SHQ_H
+
+#include <stddef.h>
+#include <stdint.h>
+
+#ifdef __cplusplus
+extern "C" {
+#endif
+
+/* An answer is word * 65536 + number * 256 + record. Number and record are 0 unless the word is SHQ_REFUSED. */
+enum shq_words {
+    SHQ_REFUSED = 0,   /* a rule is broken: this says nothing of the class, neither yes nor no */
+    SHQ_INHABITED = 1, /* shq_check: such a line can be built */
+    SHQ_EMPTY = 2,     /* shq_check: no finite line of any size has the class */
+    SHQ_WRITTEN = 3,   /* shq_write: the line stands in the buffer */
+    SHQ_HOLDS = 4,     /* shq_read: this is a line of the description, and it has the class */
+    SHQ_FAILS = 5      /* shq_read: it is not, or has not */
+};
+
+static inline enum shq_words shq_word(uint32_t answer) { return (enum shq_words)(answer >> 16); }
+static inline unsigned shq_number(uint32_t answer) { return (unsigned)(answer >> 8 & 255); }
+static inline unsigned shq_record(uint32_t answer) { return (unsigned)(answer & 255); }
+
+/* The numbers of refusals. The first that applies is answered, in the order of FORMAT 8. The record is that of the evidence that
+ * breaks the rule, from 0; it is 0 for 1 to 9 and from 21 on, and the last for 20.
+ *
+ *    1  directory      the description is shorter than its head, or its three parts do not fill it one after another
+ *    2  part           roles, concepts or question have a length that is no whole number of items, or too few or too many
+ *    3  role           a transitive byte above 1, or an inclusion in a role that is not there
+ *    4  entry          a field of a concept entry that its kind does not allow
+ *    5  simple         "at least" on a role that is transitive or includes a transitive one
+ *    6  twin           a concept entry that stands in the table already
+ *    7  missing every  "every R l" without the "every T l" of a transitive T below R
+ *    8  question       root or rule past the table
+ *    9  bundle         the evidence's head or its records' places are off, or a closing list was to be written as a line
+ *   10  form           a record of a length, step or shape that there is not
+ *   11  label          a graph's label with a literal too many, too few, or beside its opposite
+ *   12  both           a "both" in a label without its two literals, or its complement without the opposite of one
+ *   13  edge           an edge with a target, a set of roles or a count that there cannot be
+ *   14  every          an edge to a target that an "every" does not allow, or no edge that its complement asks for
+ *   15  count          an "at least" with too few fillers, or its complement with too many or with undecided ones
+ *   16  cite           a closing record names a record that is not earlier, or a literal, entry or rule past the table
+ *   17  step           a step does not follow, or a counting step's rows are not rows of its label, rising
+ *   18  cell           a cell is shut by a record that does not fit what is known of its fillers
+ *   19  tree           a counting step's tree splits what it may not, or a leaf leaves its limits open
+ *   20  end            the last record claims less than that nothing has the root
+ *   21  big            the line would have more than 64 elements
+ *   22  short          the buffer is shorter than the line
+ *   23  line form      a line of a wrong length, of no elements or more than 64, or with a name or role that there is not
+ */
+
+/* The most bytes that each can have without a refusal: of evidence as INHABITED and as EMPTY, and to pass test 9. */
+#define SHQ_DESCRIPTION_MOST 269
+#define SHQ_GRAPH_MOST 11010
+#define SHQ_LIST_MOST 65549
+#define SHQ_EVIDENCE_MOST 131070
+#define SHQ_LINE_MOST 8449
+
+/* The bytes of a line of d elements; d is the line's first byte, 1 to 64. */
+#define SHQ_LINE_BYTES(d) ((size_t)1 + 4 * (size_t)(d) + 2 * (size_t)(d) * (size_t)(d))
+
+/* Weighs evidence: SHQ_INHABITED, SHQ_EMPTY, or SHQ_REFUSED with 1 to 20. */
+uint32_t shq_check(const uint8_t *description, size_t description_length,
+                   const uint8_t *evidence, size_t evidence_length);
+
+/* Writes the line of a sample graph: SHQ_WRITTEN, or SHQ_REFUSED with 1 to 15, 21 or 22.
+ * It is written exactly if shq_check answers SHQ_INHABITED, it has at most 64 elements and the buffer holds it.
+ * What it wrote, SHQ_LINE_BYTES(buffer[0]) bytes, shq_read answers with SHQ_HOLDS. */
+uint32_t shq_write(const uint8_t *description, size_t description_length,
+                   const uint8_t *evidence, size_t evidence_length,
+                   uint8_t *buffer, size_t buffer_length);
+
+/* Reads a line by the meaning of SHQ: SHQ_HOLDS, SHQ_FAILS, or SHQ_REFUSED with 1 to 8 or 23. */
+uint32_t shq_read(const uint8_t *description, size_t description_length,
+                  const uint8_t *line, size_t line_length);
+
+#ifdef __cplusplus
+}
+#endif
+
+#endif
