@@ -169,7 +169,7 @@ fn against_of(rows: [Row; 6], k: u8) -> [Label; 6]
     out
 }
 
-// The mask `x`, which has roles below 16 alone.
+// The mask `x`: what a call answers is known to have 16 bits, an element of an array is not.
 fn mask(x: u16) -> u16
     ensures { λ r. ⌜ (r ≡ x) × (r < 65536) ⌝ }
 {
