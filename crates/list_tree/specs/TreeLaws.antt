@@ -15,6 +15,7 @@ use lib.Pow.{pow-mono}
 use lib.Signed.{ltZ}
 use Rattle.logic.specs.Tests.{So, _⇒_, decide, and-r, so-false, so-leb}
 use Rattle.logic.specs.Bounded.{all-cong}
+use Rattle.logic.specs.Refusals.{unless}
 use Rattle.parts.specs.Numbers.{byteAt, num2}
 use Rattle.counting.specs.Trees as Counting
 use Rattle.counting.specs.Trees.{Tree, leaf, split, lower, upper, weight, gap, live, leafTest, treeTest, atMost, moreThan}
@@ -22,10 +23,21 @@ use Rattle.list_form.specs.ListForm.{Placed, bytesAt, nodeIn, treeIn, andThen, 
 use Rattle.list_form.specs.FormSteps.{tree-past}
 use Rattle.list_form.specs.declared.Node.{Node}
 use Rattle.list_form.specs.declared.Node.the-variants.{Leaf, Split, Off}
+use Rattle.list_tree.specs.declared.Fit.{Fit}
+use Rattle.list_tree.specs.declared.Fit.the-variants.{Closing, Splitting, Unfit}
 use Rattle.list_leaf.specs.Leaf.{marked}
 use Rattle.list_leaf.specs.OpenLaws.{Among}
 use Rattle.list_tree.specs.ListTree.{valueFits}
-use Rattle.list_tree.specs.TreeSteps.{splitTest, fit, fitNode, closedIn, endOf}
+use Rattle.list_tree.specs.TreeSteps.{splitTest, fit, fitNode, fitRefusal, isFit, closedIn, endOf}
+
+-- ---- the case of a node has the number of the case
+pub fit-told : (x y : Fit) → x ≡ y → (x ≡ y) × (fitRefusal x ≡ unless (isFit y) 19 none)
+fit-told x y e = (e, ap fitRefusal e ∙ go y)
+  where
+    go : (y : Fit) → fitRefusal y ≡ unless (isFit y) 19 none
+    go (Closing end) = refl
+    go Splitting = refl
+    go Unfit = refl
 
 -- ---- what an end says
 closed-past : (ds : List ℕ) (k : ℕ) (open? : ℕ → Bool) (left n : ℕ) (ls : List Counting.Limit) (at p : ℕ) → closedIn ds k open? left n ls at ≡ some p → 0 < p
@@ -81,19 +93,19 @@ module _ (ds : List ℕ) (k : ℕ) (open? : ℕ → Bool) (n : ℕ) (ls : List C
   abbrev walk : ℕ → Option ℕ
   walk left = closedIn ds k open? left n ls at
 
-  abbrev node : Node
+  abbrev node : Fit
   node = fitNode ds k open? n ls at
 
   -- ---- the node
-  pub fit-leaf : (end : ℕ) (t : Bool) → Leaf end ≡ nodeIn ds n at → t ≡ leafHere → cond t (Leaf end) Off ≡ node
+  pub fit-leaf : (end : ℕ) (t : Bool) → Leaf end ≡ nodeIn ds n at → t ≡ leafHere → cond t (Closing end) Unfit ≡ node
   unfolding fitNode
   fit-leaf end t e q = rw (← e, ← q) refl
 
-  pub fit-split : (t : Bool) → Split ≡ nodeIn ds n at → t ≡ splitHere → cond t Split Off ≡ node
+  pub fit-split : (t : Bool) → Split ≡ nodeIn ds n at → t ≡ splitHere → cond t Splitting Unfit ≡ node
   unfolding fitNode
   fit-split t e q = rw (← e, ← q) refl
 
-  pub fit-off : Off ≡ nodeIn ds n at → Off ≡ node
+  pub fit-off : Off ≡ nodeIn ds n at → Unfit ≡ node
   unfolding fitNode
   fit-off e = rw (← e) refl
 
@@ -145,63 +157,63 @@ module _ (ds : List ℕ) (k : ℕ) (open? : ℕ → Bool) (n : ℕ) (ls : List C
   closed-too-deep e = rw (← e) refl
 
   -- ---- by the node that fits
-  pub fit-is-split : Split ≡ node → (Split ≡ nodeIn ds n at) × (splitHere ≡ true)
+  pub fit-is-split : Splitting ≡ node → (Split ≡ nodeIn ds n at) × (splitHere ≡ true)
   unfolding fitNode
   fit-is-split e = go (nodeIn ds n at) refl e
     where
-      split-on : (b : Bool) → splitHere ≡ b → Split ≡ cond b Split Off → splitHere ≡ true
+      split-on : (b : Bool) → splitHere ≡ b → Splitting ≡ cond b Splitting Unfit → splitHere ≡ true
       split-on true h q = h
       split-on false h q = absurd (let z : _≡_ {A = ℕ} 0 1 = cc in omega arith)
 
-      no-leaf : (b : Bool) (end : ℕ) → Split ≡ cond b (Leaf end) Off → ⊥
+      no-leaf : (b : Bool) (end : ℕ) → Splitting ≡ cond b (Closing end) Unfit → ⊥
       no-leaf true end q = let z : _≡_ {A = ℕ} 0 1 = cc in omega arith
       no-leaf false end q = let z : _≡_ {A = ℕ} 0 1 = cc in omega arith
 
-      go : (x : Node) → x ≡ nodeIn ds n at → Split ≡ fit ds k open? n ls at x → (Split ≡ nodeIn ds n at) × (splitHere ≡ true)
+      go : (x : Node) → x ≡ nodeIn ds n at → Splitting ≡ fit ds k open? n ls at x → (Split ≡ nodeIn ds n at) × (splitHere ≡ true)
       go (Leaf end) h q = absurd (no-leaf leafHere end q)
       go Split h q = (h, split-on splitHere refl q)
       go Off h q = absurd (let z : _≡_ {A = ℕ} 0 1 = cc in omega arith)
 
-  pub closed-leaf : (left end : ℕ) → Leaf end ≡ node → end ≡ endOf (walk left)
+  pub closed-leaf : (left end : ℕ) → Closing end ≡ node → end ≡ endOf (walk left)
   unfolding fitNode
   closed-leaf left end e = go (nodeIn ds n at) refl e
     where
-      leaf-on : (f : ℕ) (b : Bool) → leafHere ≡ b → Leaf f ≡ nodeIn ds n at → Leaf end ≡ cond b (Leaf f) Off → end ≡ endOf (walk left)
+      leaf-on : (f : ℕ) (b : Bool) → leafHere ≡ b → Leaf f ≡ nodeIn ds n at → Closing end ≡ cond b (Closing f) Unfit → end ≡ endOf (walk left)
       leaf-on f true h x q = let z : end ≡ f = cc in rw (closed-at-leaf left f x, h) z
       leaf-on f false h x q = absurd (let z : _≡_ {A = ℕ} 0 1 = cc in omega arith)
 
-      no-split : (b : Bool) → Leaf end ≡ cond b Split Off → ⊥
+      no-split : (b : Bool) → Closing end ≡ cond b Splitting Unfit → ⊥
       no-split true q = let z : _≡_ {A = ℕ} 0 1 = cc in omega arith
       no-split false q = let z : _≡_ {A = ℕ} 0 1 = cc in omega arith
 
-      go : (x : Node) → x ≡ nodeIn ds n at → Leaf end ≡ fit ds k open? n ls at x → end ≡ endOf (walk left)
+      go : (x : Node) → x ≡ nodeIn ds n at → Closing end ≡ fit ds k open? n ls at x → end ≡ endOf (walk left)
       go (Leaf f) h q = leaf-on f leafHere refl h q
       go Split h q = absurd (no-split splitHere q)
       go Off h q = absurd (let z : _≡_ {A = ℕ} 0 1 = cc in omega arith)
 
-  pub closed-off : (left : ℕ) → Off ≡ node → 0 ≡ endOf (walk left)
+  pub closed-off : (left : ℕ) → Unfit ≡ node → 0 ≡ endOf (walk left)
   unfolding fitNode
   closed-off left e = ap endOf (sym (go (nodeIn ds n at) refl e))
     where
-      leaf-open : (f : ℕ) (b : Bool) → leafHere ≡ b → Leaf f ≡ nodeIn ds n at → Off ≡ cond b (Leaf f) Off → walk left ≡ none
+      leaf-open : (f : ℕ) (b : Bool) → leafHere ≡ b → Leaf f ≡ nodeIn ds n at → Unfit ≡ cond b (Closing f) Unfit → walk left ≡ none
       leaf-open f true h x q = absurd (let z : _≡_ {A = ℕ} 0 1 = cc in omega arith)
       leaf-open f false h x q = closed-at-leaf left f x ∙ rw h refl
 
-      split-off : (left : ℕ) (b : Bool) → splitHere ≡ b → Split ≡ nodeIn ds n at → Off ≡ cond b Split Off → walk left ≡ none
+      split-off : (left : ℕ) (b : Bool) → splitHere ≡ b → Split ≡ nodeIn ds n at → Unfit ≡ cond b Splitting Unfit → walk left ≡ none
       split-off left true h x q = absurd (let z : _≡_ {A = ℕ} 0 1 = cc in omega arith)
       split-off zero false h x q = closed-too-deep x
       split-off (suc left) false h x q = closed-split left x ∙ rw h refl
 
-      go : (x : Node) → x ≡ nodeIn ds n at → Off ≡ fit ds k open? n ls at x → walk left ≡ none
+      go : (x : Node) → x ≡ nodeIn ds n at → Unfit ≡ fit ds k open? n ls at x → walk left ≡ none
       go (Leaf f) h q = leaf-open f leafHere refl h q
       go Split h q = split-off left splitHere refl h q
       go Off h q = closed-at-off left h
 
-  pub closed-deep : (left : ℕ) → left ≡ 0 → Split ≡ node → 0 ≡ endOf (walk left)
+  pub closed-deep : (left : ℕ) → left ≡ 0 → Splitting ≡ node → 0 ≡ endOf (walk left)
   closed-deep left z e = rw (z, closed-too-deep (fit-is-split e .0)) refl
 
   -- a split that fits: its first half, and then its second
-  module _ (left : ℕ) (e : Split ≡ node) (h : left ≡ 0 → ⊥) where
+  module _ (left : ℕ) (e : Splitting ≡ node) (h : left ≡ 0 → ⊥) where
     abbrev walkUnder : List Counting.Limit → ℕ → Option ℕ
     walkUnder xs p = closedIn ds k open? (left - 1) (n + 1) xs p
 

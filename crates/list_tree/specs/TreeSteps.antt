@@ -1,7 +1,7 @@
 -- The tree of a counting step as the code walks it: the limits that it holds, and the node and the tree at a place.
 use Prim.Native.Nat.{ℕ, _+_, _^_, _≤_}
 use mathlib.Core.Path.{_≡_}
-use mathlib.Core.Bool.{Bool, cond, _&&_}
+use mathlib.Core.Bool.{Bool, true, false, cond, _&&_}
 use mathlib.Core.List.{List, [], _∷_, _++_}
 use mathlib.Core.Option.{Option, none, some}
 use lib.Dec.{eqb, ltb}
@@ -12,6 +12,8 @@ use Rattle.counting.specs.Trees.{limit, live, leafTest, treeTest}
 use Rattle.list_form.specs.ListForm.{bytesAt, nodeIn, treeIn, andThen, given}
 use Rattle.list_form.specs.declared.Node.{Node}
 use Rattle.list_form.specs.declared.Node.the-variants.{Leaf, Split, Off}
+use Rattle.list_tree.specs.declared.Fit.{Fit}
+use Rattle.list_tree.specs.declared.Fit.the-variants.{Closing, Splitting, Unfit}
 use Rattle.list_leaf.specs.declared.Limit.{Limit}
 use Rattle.list_leaf.specs.Leaf.{limitsHeld}
 use Rattle.rows.specs.declared.Row.{Row}
@@ -36,13 +38,24 @@ pub record PutBehind (way : List Limit) (n : ℕ) (l : Counting.Limit) (next : L
 abbrev pub splitTest : ℕ → (ℕ → Bool) → ℕ → ℕ → Bool
 splitTest k open? c v = ltb c (2 ^ k) && (live open? c && valueFits v)
 
--- the node at a place, if nothing is off in it
-abbrev pub fit : List ℕ → ℕ → (ℕ → Bool) → ℕ → List Counting.Limit → ℕ → Node → Node
-fit ds k open? n ls at (Leaf end) = cond (leafTest (2 ^ k) open? ls (bytesAt (λ b. b) ds (at + 1) n)) (Leaf end) Off
-fit ds k open? n ls at Split = cond (splitTest k open? (byteAt ds (at + 1)) (num2 ds (at + 2))) Split Off
-fit ds k open? n ls at Off = Off
+-- the node at a place: a leaf closes, or it is unfit; so does a split fit
+abbrev pub fit : List ℕ → ℕ → (ℕ → Bool) → ℕ → List Counting.Limit → ℕ → Node → Fit
+fit ds k open? n ls at (Leaf end) = cond (leafTest (2 ^ k) open? ls (bytesAt (λ b. b) ds (at + 1) n)) (Closing end) Unfit
+fit ds k open? n ls at Split = cond (splitTest k open? (byteAt ds (at + 1)) (num2 ds (at + 2))) Splitting Unfit
+fit ds k open? n ls at Off = Unfit
 
-unfoldable pub fitNode : List ℕ → ℕ → (ℕ → Bool) → ℕ → List Counting.Limit → ℕ → Node
+-- the paper's number of each case: a split that is off, and a leaf that is open
+abbrev pub fitRefusal : Fit → Option ℕ
+fitRefusal (Closing end) = none
+fitRefusal Splitting = none
+fitRefusal Unfit = some 19
+
+abbrev pub isFit : Fit → Bool
+isFit (Closing end) = true
+isFit Splitting = true
+isFit Unfit = false
+
+unfoldable pub fitNode : List ℕ → ℕ → (ℕ → Bool) → ℕ → List Counting.Limit → ℕ → Fit
 fitNode ds k open? n ls at = fit ds k open? n ls at (nodeIn ds n at)
 
 -- the end of the tree at a place, if it has its form and closes under the limits ls, which are n

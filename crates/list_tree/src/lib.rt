@@ -1,9 +1,11 @@
 // The tree of a counting step: test 19.
 ghost use mathlib.Core.Path.{_≡_};
 ghost use mathlib.Core.Bool.{_&&_};
+ghost use mathlib.Core.Option.{none};
 ghost use Prim.Native.Nat.{_+_, _≤_, _<_};
 ghost use lib.Dec.{ltb};
 ghost use lib.ListN.{length};
+ghost use Rattle.logic.specs.Refusals.{unless};
 ghost use Rattle.counting.specs.Trees.{atMost, moreThan};
 ghost use Rattle.parts.specs.Numbers.{byteAt, num2};
 ghost use Rattle.counting.specs.Rows.{limits};
@@ -11,7 +13,7 @@ ghost use Rattle.refutation.specs.Cells.{bounds};
 ghost use Rattle.rows.specs.HeldRows.{rowsHeld};
 ghost use Rattle.list_leaf.specs.Leaf.{limitsHeld, marked};
 ghost use Rattle.list_leaf.specs.OpenLaws.{Among};
-ghost use Rattle.list_tree.specs.TreeSteps.{rowLimit, meant, fitNode, closedIn, endOf};
+ghost use Rattle.list_tree.specs.TreeSteps.{rowLimit, meant, fitNode, fitRefusal, isFit, closedIn, endOf};
 ghost use Rattle.list_tree.specs.ListTree.{valueFits, closingIn};
 use list_form::Node;
 use list_form::read_node;
@@ -24,6 +26,13 @@ use rows::Row;
 use rows::cell_count;
 use rows::row_at;
 use tables::Side;
+
+// A node under the limits on its way: a leaf that closes, with the place where it ends; a split that fits; or neither, which is 19.
+enum Fit {
+    Closing(usize),
+    Splitting,
+    Unfit,
+}
 
 // The limit that a row is.
 fn limit_of(row: Row) -> Limit
@@ -93,26 +102,26 @@ fn split_fits(ds: &[u8], marks: &[bool; 64], at: usize) -> bool
     marks[c] & (v <= 1000)
 }
 
-// The node at `at` under `n` limits, if nothing is off in it: a leaf that closes, or a split that fits.
-fn fit_node(ds: &[u8], marks: &[bool; 64], k: u8, way: [Limit; 14], n: u8, at: usize) -> Node
+// The node at `at` under `n` limits.
+fn fit_node(ds: &[u8], marks: &[bool; 64], k: u8, way: [Limit; 14], n: u8, at: usize) -> Fit
     requires { ⌜ (k ≤ 6) × (k ≤ n) × (n ≤ 14) × Among k (now marks) ⌝ }
-    ensures { λ r. ⌜ r ≡ fitNode (now (ds .entry)) k (marked (now (marks .entry))) n (limitsHeld k way n) at ⌝ }
+    ensures { λ r. ⌜ (r ≡ fitNode (now (ds .entry)) k (marked (now (marks .entry))) n (limitsHeld k way n) at) × (fitRefusal r ≡ unless (isFit (fitNode (now (ds .entry)) k (marked (now (marks .entry))) n (limitsHeld k way n) at)) 19 none) ⌝ }
 {
     let node = read_node(ds, n, at);
     match node {
-        Node::Off => Node::Off,
+        Node::Off => Fit::Unfit,
         Node::Leaf(end) => {
             if leaf_closes(way, k, marks, &ds[at + 1..end]) {
-                Node::Leaf(end)
+                Fit::Closing(end)
             } else {
-                Node::Off
+                Fit::Unfit
             }
         }
         Node::Split => {
             if split_fits(ds, marks, at) {
-                Node::Split
+                Fit::Splitting
             } else {
-                Node::Off
+                Fit::Unfit
             }
         }
     }
@@ -133,9 +142,9 @@ fn closes_at(
 {
     let node = fit_node(ds, marks, k, way, n, at);
     match node {
-        Node::Off => 0,
-        Node::Leaf(end) => end,
-        Node::Split => {
+        Fit::Unfit => 0,
+        Fit::Closing(end) => end,
+        Fit::Splitting => {
             if left == 0 {
                 return 0;
             }
@@ -168,8 +177,8 @@ pub fn tree_closes(rows: [Row; 6], k: u8, ds: &[u8]) -> bool
     // The root is looked at here too, so that a leaf's sums lie once above the deepest split and not on every level (docs/COST.md).
     let root = fit_node(ds, &marks, k, way, k, start);
     match root {
-        Node::Off => false,
-        Node::Leaf(end) => 0 < end,
-        Node::Split => 0 < closes_at(ds, &marks, k, 8, way, k, start),
+        Fit::Unfit => false,
+        Fit::Closing(end) => 0 < end,
+        Fit::Splitting => 0 < closes_at(ds, &marks, k, 8, way, k, start),
     }
 }

@@ -18,7 +18,10 @@ use Rattle.description.specs.Descriptions.{Entry, top, name, both, every, atLea
 use Rattle.refutation.specs.Cells as Theory
 use Rattle.refutation.specs.Cells.{rowOf, rowFrom, rowsOf}
 use Rattle.tables.specs.Tables.{fieldsAt, describe}
-use Rattle.tables.specs.Concepts.{conceptOf, conceptAt, boundIn}
+use Rattle.tables.specs.Concepts.{conceptOf, boundIn, complementOf, literalConcept, boundOf}
+use Rattle.tables.specs.declared.LiteralConcept.{LiteralConcept}
+use Rattle.tables.specs.declared.LiteralConcept.the-variants.{Not}
+use Rattle.tables.specs.declared.LiteralConcept.the-variants as LiteralConcept
 use Rattle.tables.specs.declared.Concept.{Concept}
 use Rattle.tables.specs.declared.Concept.the-variants.{Top, Name, Both, Every, AtLeast}
 use Rattle.tables.specs.declared.Count.{Count}
@@ -79,21 +82,24 @@ rowsHeld rows k = tabulate k (λ i. given (heldAt rows i))
 abbrev pub rowIn : List ℕ → List ℕ → ℕ → Row
 rowIn cs ds i = held (rowFrom (rowOf (describe [] cs []) (literal (byteAt ds (2 + i)))))
 
--- the rows of the two kinds that give one, and of a concept: of its entry, or of the complement
-abbrev pub everyRow : RoleNo → ℕ → Bool → RowOf
-everyRow r l true = Is (record { role = r; qualifier = opposed l; bound = 1; side = Lower })
-everyRow r l false = Nothing
+-- the row of a concept: a count gives its own, and so does a denied "every"
+abbrev pub countRow : Concept → RowOf
+countRow Top = Nothing
+countRow Name = Nothing
+countRow (Both a b) = Nothing
+countRow (Every r l) = Nothing
+countRow (AtLeast m) = Is (record { role = m .role; qualifier = m .literal; bound = m .bound; side = m .side })
 
-abbrev pub countRow : Count → Bool → RowOf
-countRow m true = Is (record { role = m .role; qualifier = m .literal; bound = m .bound - 1; side = Upper })
-countRow m false = Is (record { role = m .role; qualifier = m .literal; bound = m .bound; side = m .side })
+abbrev pub someRow : Concept → RowOf
+someRow Top = Nothing
+someRow Name = Nothing
+someRow (Both a b) = Nothing
+someRow (Every r l) = Is (record { role = r; qualifier = opposed l; bound = 1; side = Lower })
+someRow (AtLeast m) = Nothing
 
-abbrev pub conceptRow : Bool → Concept → RowOf
-conceptRow denied Top = Nothing
-conceptRow denied Name = Nothing
-conceptRow denied (Both a b) = Nothing
-conceptRow denied (Every r l) = everyRow r l denied
-conceptRow denied (AtLeast m) = countRow m denied
+abbrev pub conceptRow : LiteralConcept → RowOf
+conceptRow (LiteralConcept.Is c) = countRow c
+conceptRow (Not c) = someRow c
 
 -- ---- the rows of literals are told by the entries alone
 pub row-same : (rs cs qs : List ℕ) (l : Literal) → rowOf (describe [] cs []) l ≡ rowOf (describe rs cs qs) l
@@ -106,48 +112,42 @@ rows-same rs cs qs [] = refl
 rows-same rs cs qs (l ∷ lits) = ap₂ (λ o rows. rowFrom o ∷ rows) (row-same rs cs qs l) (rows-same rs cs qs lits)
 
 -- ---- laws for the row of a literal
--- the row of an entry, or of its complement
-abbrev pub rowBy : Bool → Entry → Option Theory.Row
-rowBy true x = Theory.negativeRow x
-rowBy false x = Theory.positiveRow x
-
-pub literal-row : (cs : List ℕ) (l : ℕ) → rowBy (eqb (l % 2) 1) (entryOfFields (fieldsAt cs (l / 2))) ≡ rowOf (describe [] cs []) (literal l)
-unfolding literal
-literal-row cs l = elim (decLe 1 (l % 2)) [
-  | yes q ↦ (let z : l % 2 ≡ 1 = omega arith in rw z refl)
-  | no q ↦ (let z : l % 2 ≡ 0 = omega arith in rw z refl)
-]
-
--- on the concept that the code has read
-concept-row : (b : Bool) (x : Entry) → conceptRow b (conceptOf x) ≡ heldRow (rowBy b x)
+-- the concept of a literal gives the literal's row
+concept-row : (cs : List ℕ) (l : Literal) → conceptRow (literalConcept cs l) ≡ heldRow (rowOf (describe [] cs []) l)
 unfolding conceptOf
-concept-row true top = refl
-concept-row true name = refl
-concept-row true (both a c) = refl
-concept-row true (every r l) = rw (literal-code l) refl
-concept-row true (atLeast r l n) = refl
-concept-row false top = refl
-concept-row false name = refl
-concept-row false (both a c) = refl
-concept-row false (every r l) = refl
-concept-row false (atLeast r l n) = refl
+concept-row cs (pos e) = go (entryOfFields (fieldsAt cs e))
+  where
+    go : (x : Entry) → countRow (conceptOf x) ≡ heldRow (Theory.positiveRow x)
+    go top = refl
+    go name = refl
+    go (both a c) = refl
+    go (every r l) = refl
+    go (atLeast r l n) = refl
+concept-row cs (neg e) = go (entryOfFields (fieldsAt cs e))
+  where
+    go : (x : Entry) → conceptRow (complementOf (conceptOf x)) ≡ heldRow (Theory.negativeRow x)
+    go top = refl
+    go name = refl
+    go (both a c) = refl
+    go (every r l) = rw (literal-code l) refl
+    go (atLeast r l n) = refl
 
-pub row-read : (cs : List ℕ) (l : ℕ) (x : RowOf) (c d : Concept) → c ≡ conceptAt cs (l / 2) → c ≡ d → x ≡ conceptRow (eqb (l % 2) 1) d
+pub row-read : (cs : List ℕ) (l : ℕ) (x : RowOf) (c d : LiteralConcept) → c ≡ literalConcept cs (literal l) → c ≡ d → x ≡ conceptRow d
     → (x ≡ heldRow (rowOf (describe [] cs []) (literal l))) × (rowRefusal x ≡ unless (there (rowOf (describe [] cs []) (literal l))) 17 none)
-row-read cs l x c d p q e = row-told (rowOf (describe [] cs []) (literal l)) x (e ∙ ap (conceptRow (eqb (l % 2) 1)) (sym q ∙ p) ∙ concept-row (eqb (l % 2) 1) (entryOfFields (fieldsAt cs (l / 2))) ∙ ap heldRow (literal-row cs l))
+row-read cs l x c d p q e = row-told (rowOf (describe [] cs []) (literal l)) x (e ∙ ap conceptRow (sym q ∙ p) ∙ concept-row cs (literal l))
 
--- the bound of an "at least" that was read
+-- the bound of a count that was read
+pub bound-few : (c d : LiteralConcept) → boundOf c < 65536 → c ≡ d → boundOf d < 65536
+bound-few c d h e = rw e at h
+
 pub count-few : (c : Concept) (m : Count) → boundIn c < 65536 → c ≡ AtLeast m → m .bound < 65536
 count-few c m h e = rw e at h
 
-pub every-denied : (r : RoleNo) (l q : ℕ) (b : Bool) → b ≡ true → q ≡ opposed l → Is (record { role = r; qualifier = q; bound = 1; side = Lower }) ≡ everyRow r l b
-every-denied r l q b p e = rw (p, e) refl
+pub count-made : (m : Count) (n : ℕ) → n ≡ m .bound → Is (record { role = m .role; qualifier = m .literal; bound = n; side = m .side }) ≡ countRow (AtLeast m)
+count-made m n e = rw e refl
 
-pub count-least : (m : Count) (n : ℕ) (b : Bool) → b ≡ false → n ≡ m .bound → Is (record { role = m .role; qualifier = m .literal; bound = n; side = m .side }) ≡ countRow m b
-count-least m n b p e = rw (p, e) refl
-
-pub count-most : (m : Count) (n : ℕ) (b : Bool) → b ≡ true → n ≡ m .bound - 1 → Is (record { role = m .role; qualifier = m .literal; bound = n; side = Upper }) ≡ countRow m b
-count-most m n b p e = rw (p, e) refl
+pub some-made : (r : RoleNo) (l q : ℕ) → q ≡ opposed l → Is (record { role = r; qualifier = q; bound = 1; side = Lower }) ≡ someRow (Every r l)
+some-made r l q e = rw e refl
 
 -- row i of the step, where its literal gives a row, and where it gives none
 module _ (cs ds : List ℕ) (i l : ℕ) (p : l ≡ byteAt ds (2 + i)) where

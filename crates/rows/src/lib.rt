@@ -6,20 +6,20 @@ ghost use Prim.Native.Nat.{ℕ, _<_, _≤_, _^_};
 ghost use lib.ListN.{length, getD};
 ghost use Rattle.logic.specs.Refusals.{unless};
 ghost use Rattle.description.specs.Literals.{literal};
+ghost use Rattle.tables.specs.Concepts.{boundIn};
 ghost use Rattle.tables.specs.Tables.{describe};
 ghost use Rattle.parts.specs.Numbers.{upTo};
 ghost use Rattle.list_form.specs.ListForm.{bytesAt};
 ghost use Rattle.refutation.specs.Cells.{rowOf, rowsOf};
-ghost use Rattle.rows.specs.HeldRows.{noRow, heldAt, heldRow, rowRefusal, there, everyRow, countRow, rowsHeld, rowIn};
+ghost use Rattle.rows.specs.HeldRows.{noRow, heldAt, heldRow, rowRefusal, there, countRow, someRow, rowsHeld, rowIn};
 use nodes::opposite;
 use parts::byte;
 use parts::up_to;
 use tables::Concept;
-use tables::Count;
-use tables::EntryNo;
+use tables::LiteralConcept;
 use tables::RoleNo;
 use tables::Side;
-use tables::concept_at;
+use tables::literal_concept;
 
 pub struct Row {
     pub role: RoleNo,
@@ -49,66 +49,55 @@ fn narrow(n: usize) -> u16
     (n % 65536) as u16
 }
 
-// The row of "every R l": none, or that of its complement.
-fn every_row(role: RoleNo, l: u8, denied: bool) -> RowOf
-    ensures { λ r. ⌜ r ≡ everyRow role l denied ⌝ }
+// The row of a count, on its own side; no other concept that is not denied gives one.
+fn count_row(c: Concept) -> RowOf
+    requires { ⌜ boundIn c < 65536 ⌝ }
+    ensures { λ r. ⌜ r ≡ countRow c ⌝ }
 {
-    if denied {
-        RowOf::Is(Row {
+    match c {
+        Concept::AtLeast(m) => {
+            let role = m.role;
+            let side = m.side;
+            RowOf::Is(Row {
+                role: role,
+                qualifier: m.literal,
+                bound: narrow(m.bound),
+                side: side,
+            })
+        }
+        Concept::Top => RowOf::Nothing,
+        Concept::Name => RowOf::Nothing,
+        Concept::Both(_, _) => RowOf::Nothing,
+        Concept::Every(_, _) => RowOf::Nothing,
+    }
+}
+
+// The row of a denied "every": at least one filler has the opposite literal.
+fn some_row(c: Concept) -> RowOf
+    ensures { λ r. ⌜ r ≡ someRow c ⌝ }
+{
+    match c {
+        Concept::Every(role, l) => RowOf::Is(Row {
             role: role,
             qualifier: opposite(l),
             bound: 1,
             side: Side::Lower,
-        })
-    } else {
-        RowOf::Nothing
+        }),
+        Concept::Top => RowOf::Nothing,
+        Concept::Name => RowOf::Nothing,
+        Concept::Both(_, _) => RowOf::Nothing,
+        Concept::AtLeast(_) => RowOf::Nothing,
     }
-}
-
-// The row of an "at least", on its own side, or that of its complement.
-fn count_row(m: Count, denied: bool) -> RowOf
-    requires { ⌜ m .bound < 65536 ⌝ }
-    ensures { λ r. ⌜ r ≡ countRow m denied ⌝ }
-{
-    let role = m.role;
-    let side = m.side;
-    let n = m.bound;
-    if !denied {
-        return RowOf::Is(Row {
-            role: role,
-            qualifier: m.literal,
-            bound: narrow(n),
-            side: side,
-        });
-    }
-    if n == 0 {
-        return RowOf::Is(Row {
-            role: role,
-            qualifier: m.literal,
-            bound: 0,
-            side: Side::Upper,
-        });
-    }
-    RowOf::Is(Row {
-        role: role,
-        qualifier: m.literal,
-        bound: narrow(n - 1),
-        side: Side::Upper,
-    })
 }
 
 // The row that literal `l` gives.
 pub fn row_of(cs: &[u8], l: u8) -> RowOf
     ensures { λ r. ⌜ (r ≡ heldRow (rowOf (describe [] (now (cs .entry)) []) (literal l))) × (rowRefusal r ≡ unless (there (rowOf (describe [] (now (cs .entry)) []) (literal l))) 17 none) ⌝ }
 {
-    let concept = concept_at(cs, EntryNo(l / 2));
-    let denied = l % 2 == 1;
+    let concept = literal_concept(cs, l);
     match concept {
-        Concept::Every(role, q) => every_row(role, q, denied),
-        Concept::AtLeast(count) => count_row(count, denied),
-        Concept::Top => RowOf::Nothing,
-        Concept::Name => RowOf::Nothing,
-        Concept::Both(_, _) => RowOf::Nothing,
+        LiteralConcept::Is(c) => count_row(c),
+        LiteralConcept::Not(c) => some_row(c),
     }
 }
 

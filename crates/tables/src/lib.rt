@@ -4,7 +4,8 @@ ghost use mathlib.Core.Bool.{_&&_};
 ghost use Prim.Native.Nat.{_<_};
 ghost use lib.Dec.{eqb, leb, ltb};
 ghost use Rattle.tables.specs.Tables.{fieldsAt, fieldsTest};
-ghost use Rattle.tables.specs.Concepts.{fieldsStruct, fieldsIn, conceptAt, boundIn};
+ghost use Rattle.description.specs.Literals.{literal};
+ghost use Rattle.tables.specs.Concepts.{fieldsStruct, fieldsIn, conceptAt, boundIn, fewerOf, complementOf, literalConcept, boundOf};
 use parts::byte;
 use parts::read2;
 
@@ -32,6 +33,13 @@ pub enum Concept {
     Both(u8, u8),
     Every(RoleNo, u8),
     AtLeast(Count),
+}
+
+// The concept of a literal: an entry's own, or the complement of one. The complement of "at least n" counts too, from the
+// other side: at most n - 1.
+pub enum LiteralConcept {
+    Is(Concept),
+    Not(Concept),
 }
 
 pub struct Fields {
@@ -147,4 +155,50 @@ pub fn concept_at(cs: &[u8], e: EntryNo) -> Concept
             side: Side::Lower,
         }),
     }
+}
+
+// Fewer fillers than the bound of `m`, as a count.
+fn fewer(m: Count) -> Count
+    ensures { λ r. ⌜ r ≡ fewerOf m ⌝ }
+{
+    let role = m.role;
+    let n = m.bound;
+    if n == 0 {
+        return Count {
+            role: role,
+            literal: m.literal,
+            bound: 0,
+            side: Side::Upper,
+        };
+    }
+    Count {
+        role: role,
+        literal: m.literal,
+        bound: n - 1,
+        side: Side::Upper,
+    }
+}
+
+// The complement of an entry's concept.
+fn complement(c: Concept) -> LiteralConcept
+    ensures { λ r. ⌜ r ≡ complementOf c ⌝ }
+{
+    match c {
+        Concept::Top => LiteralConcept::Not(Concept::Top),
+        Concept::Name => LiteralConcept::Not(Concept::Name),
+        Concept::Both(a, b) => LiteralConcept::Not(Concept::Both(a, b)),
+        Concept::Every(r, l) => LiteralConcept::Not(Concept::Every(r, l)),
+        Concept::AtLeast(m) => LiteralConcept::Is(Concept::AtLeast(fewer(m))),
+    }
+}
+
+// The concept of literal `l`.
+pub fn literal_concept(cs: &[u8], l: u8) -> LiteralConcept
+    ensures { λ r. ⌜ (r ≡ literalConcept (now (cs .entry)) (literal l)) × (boundOf r < 65536) ⌝ }
+{
+    let concept = concept_at(cs, EntryNo(l / 2));
+    if l % 2 == 0 {
+        return LiteralConcept::Is(concept);
+    }
+    complement(concept)
 }

@@ -30,7 +30,6 @@ abbrev closes-at-below : ℕ → In 2 closes-at-kinds.ps
 closes-at-below t =
     and 2 closes-at-kinds.ps (falls 2 closes-at-kinds.ps _<_ μ-closes-at t) closes-at.Pre
 
--- src/lib.rt:134:9
 closes-at-fit-node-requires : (t : ℕ) → closes-at-lts.Need-fit-node-requires (
   fit-node-reads.Asked,
   fit-node-reads.Learnt,
@@ -43,7 +42,6 @@ closes-at-fit-node-requires : (t : ℕ) → closes-at-lts.Need-fit-node-requires
 ) (closes-at-at t) closes-at.Post
 closes-at-fit-node-requires t c κs = (omega arith, omega arith, omega arith, c .before .pre .1 .4)
 
--- src/lib.rt:136:22
 closes-at-enum-told : (t : ℕ) → closes-at-lts.Need-enum-told (
   fit-node-reads.Asked,
   fit-node-reads.Learnt,
@@ -56,7 +54,6 @@ closes-at-enum-told : (t : ℕ) → closes-at-lts.Need-enum-told (
 ) (closes-at-at t) closes-at.Post
 closes-at-enum-told t c = search needs
 
--- src/lib.rt:137:20
 closes-at-enum-known-node : (t : ℕ) → closes-at-lts.Need-enum-known-node (
   fit-node-reads.Asked,
   fit-node-reads.Learnt,
@@ -69,7 +66,6 @@ closes-at-enum-known-node : (t : ℕ) → closes-at-lts.Need-enum-known-node (
 ) (closes-at-at t) closes-at.Post
 closes-at-enum-known-node t c = search needs
 
--- src/lib.rt:139:16
 closes-at-enum-told-2 : (t : ℕ) → closes-at-lts.Need-enum-told-2 (
   fit-node-reads.Asked,
   fit-node-reads.Learnt,
@@ -82,7 +78,6 @@ closes-at-enum-told-2 : (t : ℕ) → closes-at-lts.Need-enum-told-2 (
 ) (closes-at-at t) closes-at.Post
 closes-at-enum-told-2 t c = search needs
 
--- src/lib.rt:140:17
 closes-at-returns : (t : ℕ) → closes-at-lts.Need-returns (
   fit-node-reads.Asked,
   fit-node-reads.Learnt,
@@ -93,9 +88,8 @@ closes-at-returns : (t : ℕ) → closes-at-lts.Need-returns (
   high-half-reads.Asked,
   high-half-reads.Learnt,
 ) (closes-at-at t) closes-at.Post
-closes-at-returns t c = let b = c .before in let a = b .before .before .before .before .args in closed-deep (a .ds .now) (a .k) (marked (a .marks .now)) (a .n) (limitsHeld (a .k) (a .way) (a .n)) (a .at) (a .left) (omega arith) (sym (b .enum-told2 .given .1) ∙ b .before .before .fit-node .ensures)
+closes-at-returns t c = let b = c .before in let a = b .before .before .before .before .args in closed-deep (a .ds .now) (a .k) (marked (a .marks .now)) (a .n) (limitsHeld (a .k) (a .way) (a .n)) (a .at) (a .left) (omega arith) (sym (b .enum-told2 .given .1) ∙ b .before .before .fit-node .ensures .0)
 
--- src/lib.rt:143:32
 closes-at-low-half-requires : (t : ℕ) → closes-at-lts.Need-low-half-requires (
   fit-node-reads.Asked,
   fit-node-reads.Learnt,
@@ -106,9 +100,8 @@ closes-at-low-half-requires : (t : ℕ) → closes-at-lts.Need-low-half-requires
   high-half-reads.Asked,
   high-half-reads.Learnt,
 ) (closes-at-at t) closes-at.Post
-closes-at-low-half-requires t c κs = let b = c .before in let s = b .before .before .before .before in let a = s .args in let f = fit-is-split (a .ds .now) (a .k) (marked (a .marks .now)) (a .n) (limitsHeld (a .k) (a .way) (a .n)) (a .at) (sym (b .enum-told2 .given .1) ∙ b .before .before .fit-node .ensures) in split-room (a .ds .now) (a .n) (a .at) (f .0)
+closes-at-low-half-requires t c κs = let b = c .before in let s = b .before .before .before .before in let a = s .args in let f = fit-is-split (a .ds .now) (a .k) (marked (a .marks .now)) (a .n) (limitsHeld (a .k) (a .way) (a .n)) (a .at) (sym (b .enum-told2 .given .1) ∙ b .before .before .fit-node .ensures .0) in split-room (a .ds .now) (a .n) (a .at) (f .0)
 
--- src/lib.rt:143:13
 closes-at-mul-path : (t : ℕ) → closes-at-lts.Need-mul-path (
   fit-node-reads.Asked,
   fit-node-reads.Learnt,
@@ -121,7 +114,6 @@ closes-at-mul-path : (t : ℕ) → closes-at-lts.Need-mul-path (
 ) (closes-at-at t) closes-at.Post
 closes-at-mul-path t c = omega arith
 
--- src/lib.rt:143:13
 closes-at-array-set-from-path : (t : ℕ) → closes-at-lts.Need-array-set-from-path (
   fit-node-reads.Asked,
   fit-node-reads.Learnt,
@@ -134,7 +126,6 @@ closes-at-array-set-from-path : (t : ℕ) → closes-at-lts.Need-array-set-from-
 ) (closes-at-at t) closes-at.Post
 closes-at-array-set-from-path t c = omega arith
 
--- src/lib.rt:144:48
 closes-at-sub-closes-at : (t : ℕ) → closes-at-lts.Need-sub-closes-at (
   fit-node-reads.Asked,
   fit-node-reads.Learnt,
@@ -147,7 +138,6 @@ closes-at-sub-closes-at : (t : ℕ) → closes-at-lts.Need-sub-closes-at (
 ) (closes-at-at t) closes-at.Post
 closes-at-sub-closes-at t c = omega arith
 
--- src/lib.rt:144:64
 closes-at-add-closes-at : (t : ℕ) → closes-at-lts.Need-add-closes-at (
   fit-node-reads.Asked,
   fit-node-reads.Learnt,
@@ -160,7 +150,6 @@ closes-at-add-closes-at : (t : ℕ) → closes-at-lts.Need-add-closes-at (
 ) (closes-at-at t) closes-at.Post
 closes-at-add-closes-at t c = omega arith
 
--- src/lib.rt:144:71
 closes-at-add-closes-at-2 : (t : ℕ) → closes-at-lts.Need-add-closes-at-2 (
   fit-node-reads.Asked,
   fit-node-reads.Learnt,
@@ -171,9 +160,8 @@ closes-at-add-closes-at-2 : (t : ℕ) → closes-at-lts.Need-add-closes-at-2 (
   high-half-reads.Asked,
   high-half-reads.Learnt,
 ) (closes-at-at t) closes-at.Post
-closes-at-add-closes-at-2 t c = let b = c .before .before in let a = b .before .before .before .before .args in let f = fit-is-split (a .ds .now) (a .k) (marked (a .marks .now)) (a .n) (limitsHeld (a .k) (a .way) (a .n)) (a .at) (sym (b .enum-told2 .given .1) ∙ b .before .before .fit-node .ensures) in let r = split-room (a .ds .now) (a .n) (a .at) (f .0) in omega arith
+closes-at-add-closes-at-2 t c = let b = c .before .before in let a = b .before .before .before .before .args in let f = fit-is-split (a .ds .now) (a .k) (marked (a .marks .now)) (a .n) (limitsHeld (a .k) (a .way) (a .n)) (a .at) (sym (b .enum-told2 .given .1) ∙ b .before .before .fit-node .ensures .0) in let r = split-room (a .ds .now) (a .n) (a .at) (f .0) in omega arith
 
--- src/lib.rt:144:17
 closes-at-closes-at-requires : (t : ℕ) → closes-at-lts.Need-closes-at-requires (
   fit-node-reads.Asked,
   fit-node-reads.Learnt,
@@ -186,7 +174,6 @@ closes-at-closes-at-requires : (t : ℕ) → closes-at-lts.Need-closes-at-requir
 ) (closes-at-at t) closes-at.Post
 closes-at-closes-at-requires t c κs = let s = c .before .before .before .before .before .before in let a = s .args in let p = put-behind (a .way) (a .n) (c .low-half .result) _ (omega arith) (s .pre .1 .3) (c .low-half .ensures) in (omega arith, (omega arith, omega arith, omega arith, p .size, s .pre .1 .4))
 
--- src/lib.rt:146:17
 closes-at-returns-2 : (t : ℕ) → closes-at-lts.Need-returns-2 (
   fit-node-reads.Asked,
   fit-node-reads.Learnt,
@@ -197,9 +184,8 @@ closes-at-returns-2 : (t : ℕ) → closes-at-lts.Need-returns-2 (
   high-half-reads.Asked,
   high-half-reads.Learnt,
 ) (closes-at-at t) closes-at.Post
-closes-at-returns-2 t c = let w = c .before .before in let b = w .before .before in let s = b .before .before .before .before in let a = s .args in let p = put-behind (a .way) (a .n) (w .low-half .result) _ (omega (arith, s .pre .1 .2, w .before .if1 .left)) (s .pre .1 .3) (w .low-half .ensures) in closed-first (a .ds .now) (a .k) (marked (a .marks .now)) (a .n) (limitsHeld (a .k) (a .way) (a .n)) (a .at) (a .left) (sym (b .enum-told2 .given .1) ∙ b .before .before .fit-node .ensures) (w .before .if1 .left) (limitsHeld (a .k) (set (a .way) (a .n) (w .low-half .result)) (a .n + 1)) (c .before .closes-at .result) (p .held (a .k) (s .pre .1 .1)) (c .if2 .taken) (c .before .closes-at .ensures)
+closes-at-returns-2 t c = let w = c .before .before in let b = w .before .before in let s = b .before .before .before .before in let a = s .args in let p = put-behind (a .way) (a .n) (w .low-half .result) _ (omega (arith, s .pre .1 .2, w .before .if1 .left)) (s .pre .1 .3) (w .low-half .ensures) in closed-first (a .ds .now) (a .k) (marked (a .marks .now)) (a .n) (limitsHeld (a .k) (a .way) (a .n)) (a .at) (a .left) (sym (b .enum-told2 .given .1) ∙ b .before .before .fit-node .ensures .0) (w .before .if1 .left) (limitsHeld (a .k) (set (a .way) (a .n) (w .low-half .result)) (a .n + 1)) (c .before .closes-at .result) (p .held (a .k) (s .pre .1 .1)) (c .if2 .taken) (c .before .closes-at .ensures)
 
--- src/lib.rt:148:32
 closes-at-high-half-requires : (t : ℕ) → closes-at-lts.Need-high-half-requires (
   fit-node-reads.Asked,
   fit-node-reads.Learnt,
@@ -210,9 +196,8 @@ closes-at-high-half-requires : (t : ℕ) → closes-at-lts.Need-high-half-requir
   high-half-reads.Asked,
   high-half-reads.Learnt,
 ) (closes-at-at t) closes-at.Post
-closes-at-high-half-requires t c κs = let w = c .before .before in let b = w .before .before in let s = b .before .before .before .before in let a = s .args in let f = fit-is-split (a .ds .now) (a .k) (marked (a .marks .now)) (a .n) (limitsHeld (a .k) (a .way) (a .n)) (a .at) (sym (b .enum-told2 .given .1) ∙ b .before .before .fit-node .ensures) in (split-room (a .ds .now) (a .n) (a .at) (f .0), split-value (a .k) (marked (a .marks .now)) (byteAt (a .ds .now) (a .at + 1)) (num2 (a .ds .now) (a .at + 2)) (f .1))
+closes-at-high-half-requires t c κs = let w = c .before .before in let b = w .before .before in let s = b .before .before .before .before in let a = s .args in let f = fit-is-split (a .ds .now) (a .k) (marked (a .marks .now)) (a .n) (limitsHeld (a .k) (a .way) (a .n)) (a .at) (sym (b .enum-told2 .given .1) ∙ b .before .before .fit-node .ensures .0) in (split-room (a .ds .now) (a .n) (a .at) (f .0), split-value (a .k) (marked (a .marks .now)) (byteAt (a .ds .now) (a .at + 1)) (num2 (a .ds .now) (a .at + 2)) (f .1))
 
--- src/lib.rt:148:13
 closes-at-mul-path-2 : (t : ℕ) → closes-at-lts.Need-mul-path-2 (
   fit-node-reads.Asked,
   fit-node-reads.Learnt,
@@ -225,7 +210,6 @@ closes-at-mul-path-2 : (t : ℕ) → closes-at-lts.Need-mul-path-2 (
 ) (closes-at-at t) closes-at.Post
 closes-at-mul-path-2 t c = omega arith
 
--- src/lib.rt:148:13
 closes-at-array-set-from-path-2 : (t : ℕ) → closes-at-lts.Need-array-set-from-path-2 (
   fit-node-reads.Asked,
   fit-node-reads.Learnt,
@@ -238,7 +222,6 @@ closes-at-array-set-from-path-2 : (t : ℕ) → closes-at-lts.Need-array-set-fro
 ) (closes-at-at t) closes-at.Post
 closes-at-array-set-from-path-2 t c = let w = c .before .before .before in let s = w .before .before .before .before .before .before in omega (arith, s .pre .1 .2, w .before .if1 .left)
 
--- src/lib.rt:149:37
 closes-at-sub-closes-at-2 : (t : ℕ) → closes-at-lts.Need-sub-closes-at-2 (
   fit-node-reads.Asked,
   fit-node-reads.Learnt,
@@ -251,7 +234,6 @@ closes-at-sub-closes-at-2 : (t : ℕ) → closes-at-lts.Need-sub-closes-at-2 (
 ) (closes-at-at t) closes-at.Post
 closes-at-sub-closes-at-2 t c = omega arith
 
--- src/lib.rt:149:53
 closes-at-add-closes-at-3 : (t : ℕ) → closes-at-lts.Need-add-closes-at-3 (
   fit-node-reads.Asked,
   fit-node-reads.Learnt,
@@ -264,7 +246,6 @@ closes-at-add-closes-at-3 : (t : ℕ) → closes-at-lts.Need-add-closes-at-3 (
 ) (closes-at-at t) closes-at.Post
 closes-at-add-closes-at-3 t c = let w = c .before .before .before in let s = w .before .before .before .before .before .before in omega (arith, s .pre .1 .2)
 
--- src/lib.rt:149:13
 closes-at-closes-at-requires-2 : (t : ℕ) → closes-at-lts.Need-closes-at-requires-2 (
   fit-node-reads.Asked,
   fit-node-reads.Learnt,
@@ -277,7 +258,6 @@ closes-at-closes-at-requires-2 : (t : ℕ) → closes-at-lts.Need-closes-at-requ
 ) (closes-at-at t) closes-at.Post
 closes-at-closes-at-requires-2 t c κs = let w = c .before .before .before in let s = w .before .before .before .before .before .before in let a = s .args in let p = put-again (a .way) (a .n) (w .low-half .result) (c .high-half .result) _ (omega (arith, s .pre .1 .2, w .before .if1 .left)) (s .pre .1 .3) (c .high-half .ensures) in (omega (arith, s .pre .0, w .before .if1 .left), (omega (arith, s .pre .1 .0), omega (arith, s .pre .1 .1), omega (arith, s .pre .1 .2, w .before .if1 .left), p .size, s .pre .1 .4))
 
--- src/lib.rt:122:1
 closes-at-returns-3 : (t : ℕ) → closes-at-lts.Need-returns-3 (
   fit-node-reads.Asked,
   fit-node-reads.Learnt,
@@ -288,9 +268,8 @@ closes-at-returns-3 : (t : ℕ) → closes-at-lts.Need-returns-3 (
   high-half-reads.Asked,
   high-half-reads.Learnt,
 ) (closes-at-at t) closes-at.Post
-closes-at-returns-3 t c = let a = c .before .before .before .before .args in closed-off (a .ds .now) (a .k) (marked (a .marks .now)) (a .n) (limitsHeld (a .k) (a .way) (a .n)) (a .at) (a .left) (sym (c .enum-told .given .1) ∙ c .before .before .fit-node .ensures)
+closes-at-returns-3 t c = let a = c .before .before .before .before .args in closed-off (a .ds .now) (a .k) (marked (a .marks .now)) (a .n) (limitsHeld (a .k) (a .way) (a .n)) (a .at) (a .left) (sym (c .enum-told .given .1) ∙ c .before .before .fit-node .ensures .0)
 
--- src/lib.rt:122:1
 closes-at-returns-4 : (t : ℕ) → closes-at-lts.Need-returns-4 (
   fit-node-reads.Asked,
   fit-node-reads.Learnt,
@@ -301,9 +280,8 @@ closes-at-returns-4 : (t : ℕ) → closes-at-lts.Need-returns-4 (
   high-half-reads.Asked,
   high-half-reads.Learnt,
 ) (closes-at-at t) closes-at.Post
-closes-at-returns-4 t c = let b = c .before in let a = b .before .before .before .before .args in closed-leaf (a .ds .now) (a .k) (marked (a .marks .now)) (a .n) (limitsHeld (a .k) (a .way) (a .n)) (a .at) (a .left) (b .node .given .0 .0) (sym (b .node .given .1) ∙ b .before .before .fit-node .ensures)
+closes-at-returns-4 t c = let b = c .before in let a = b .before .before .before .before .args in closed-leaf (a .ds .now) (a .k) (marked (a .marks .now)) (a .n) (limitsHeld (a .k) (a .way) (a .n)) (a .at) (a .left) (b .node .given .0 .0) (sym (b .node .given .1) ∙ b .before .before .fit-node .ensures .0)
 
--- src/lib.rt:122:1
 closes-at-returns-5 : (t : ℕ) → closes-at-lts.Need-returns-5 (
   fit-node-reads.Asked,
   fit-node-reads.Learnt,
@@ -314,7 +292,7 @@ closes-at-returns-5 : (t : ℕ) → closes-at-lts.Need-returns-5 (
   high-half-reads.Asked,
   high-half-reads.Learnt,
 ) (closes-at-at t) closes-at.Post
-closes-at-returns-5 t c = let h = c .before in let g = h .before .before in let w = g .before in let b = w .before .before in let s = b .before .before .before .before in let a = s .args in let few : a .n < 14 = omega (arith, s .pre .1 .2, w .before .if1 .left) in let p = put-behind (a .way) (a .n) (w .low-half .result) _ few (s .pre .1 .3) (w .low-half .ensures) in let q = put-again (a .way) (a .n) (w .low-half .result) (h .high-half .result) _ few (s .pre .1 .3) (h .high-half .ensures) in closed-second (a .ds .now) (a .k) (marked (a .marks .now)) (a .n) (limitsHeld (a .k) (a .way) (a .n)) (a .at) (a .left) (sym (b .enum-told2 .given .1) ∙ b .before .before .fit-node .ensures) (w .before .if1 .left) (limitsHeld (a .k) (set (a .way) (a .n) (w .low-half .result)) (a .n + 1)) (limitsHeld (a .k) (set (set (a .way) (a .n) (w .low-half .result)) (a .n) (h .high-half .result)) (a .n + 1)) (g .closes-at .result) (c .closes-at2 .result) (p .held (a .k) (s .pre .1 .1)) (q .held (a .k) (s .pre .1 .1)) (h .before .if2 .left) (g .closes-at .ensures) (c .closes-at2 .ensures)
+closes-at-returns-5 t c = let h = c .before in let g = h .before .before in let w = g .before in let b = w .before .before in let s = b .before .before .before .before in let a = s .args in let few : a .n < 14 = omega (arith, s .pre .1 .2, w .before .if1 .left) in let p = put-behind (a .way) (a .n) (w .low-half .result) _ few (s .pre .1 .3) (w .low-half .ensures) in let q = put-again (a .way) (a .n) (w .low-half .result) (h .high-half .result) _ few (s .pre .1 .3) (h .high-half .ensures) in closed-second (a .ds .now) (a .k) (marked (a .marks .now)) (a .n) (limitsHeld (a .k) (a .way) (a .n)) (a .at) (a .left) (sym (b .enum-told2 .given .1) ∙ b .before .before .fit-node .ensures .0) (w .before .if1 .left) (limitsHeld (a .k) (set (a .way) (a .n) (w .low-half .result)) (a .n + 1)) (limitsHeld (a .k) (set (set (a .way) (a .n) (w .low-half .result)) (a .n) (h .high-half .result)) (a .n + 1)) (g .closes-at .result) (c .closes-at2 .result) (p .held (a .k) (s .pre .1 .1)) (q .held (a .k) (s .pre .1 .1)) (h .before .if2 .left) (g .closes-at .ensures) (c .closes-at2 .ensures)
 
 pub +closes-at-spec : {M : Type 1} → statement M
 +closes-at-spec = close μ-closes-at λ t. closes-at-lts.spec (

@@ -6,7 +6,7 @@ use lib.ListN.{length}
 use Rattle.parts.specs.Numbers.{byteAt, num2}
 use Rattle.list_form.specs.FormSteps.{leaf-room, split-room}
 use Rattle.list_leaf.specs.Leaf.{limitsHeld, marked}
-use Rattle.list_tree.specs.TreeLaws.{fit-leaf, fit-split, fit-off, split-among}
+use Rattle.list_tree.specs.TreeLaws.{fit-leaf, fit-split, fit-off, fit-told, split-among}
 use Rattle.list_tree.specs.HeldLaws.{leaf-part}
 use borrow.Author.Needs.{needs}
 use Rattle.list_tree.proofs.fit_node.Statement.{statement}
@@ -54,27 +54,27 @@ split-fits-requires : tie.Need-split-fits-requires
 split-fits-requires c κs = let a = c .before .before .before .before .args in split-room (a .ds .now) (a .n) (a .at) (sym (c .enum-told2 .given .1) ∙ c .before .before .read-node .ensures .0)
 
 returns : tie.Need-returns
-returns c = let a = c .before .before .before .before .args in fit-off (a .ds .now) (a .k) (marked (a .marks .now)) (a .n) (limitsHeld (a .k) (a .way) (a .n)) (a .at) (sym (c .enum-told .given .1) ∙ c .before .before .read-node .ensures .0)
+returns c = let a = c .before .before .before .before .args in fit-told _ _ (fit-off (a .ds .now) (a .k) (marked (a .marks .now)) (a .n) (limitsHeld (a .k) (a .way) (a .n)) (a .at) (sym (c .enum-told .given .1) ∙ c .before .before .read-node .ensures .0))
 
 returns-2 : tie.Need-returns-2
 returns-2 c = let b = c .before .before .before in let s = b .before .before .before .before .before in let a = s .args in let r = room b in let f = b .before .node .given in
-    fit-leaf (a .ds .now) (a .k) (marked (a .marks .now)) (a .n) (limitsHeld (a .k) (a .way) (a .n)) (a .at) (f .0 .0) true (sym (f .1) ∙ b .before .before .before .read-node .ensures .0)
-    (sym (c .if1 .taken) ∙ c .before .leaf-closes .ensures ∙ leaf-part (a .ds .now) (a .marks .now) (a .k) (a .n) (a .at) (f .0 .0) (a .way) (omega arith) (omega arith) (omega arith) (s .pre .3) (r .0) (r .1))
+    fit-told _ _ (fit-leaf (a .ds .now) (a .k) (marked (a .marks .now)) (a .n) (limitsHeld (a .k) (a .way) (a .n)) (a .at) (f .0 .0) true (sym (f .1) ∙ b .before .before .before .read-node .ensures .0)
+    (sym (c .if1 .taken) ∙ c .before .leaf-closes .ensures ∙ leaf-part (a .ds .now) (a .marks .now) (a .k) (a .n) (a .at) (f .0 .0) (a .way) (omega arith) (omega arith) (omega arith) (s .pre .3) (r .0) (r .1)))
 
 returns-3 : tie.Need-returns-3
 returns-3 c = let b = c .before .before .before in let s = b .before .before .before .before .before in let a = s .args in let r = room b in let f = b .before .node .given in
-    fit-leaf (a .ds .now) (a .k) (marked (a .marks .now)) (a .n) (limitsHeld (a .k) (a .way) (a .n)) (a .at) (f .0 .0) false (sym (f .1) ∙ b .before .before .before .read-node .ensures .0)
-    (sym (c .if1 .left) ∙ c .before .leaf-closes .ensures ∙ leaf-part (a .ds .now) (a .marks .now) (a .k) (a .n) (a .at) (f .0 .0) (a .way) (omega arith) (omega arith) (omega arith) (s .pre .3) (r .0) (r .1))
+    fit-told _ _ (fit-leaf (a .ds .now) (a .k) (marked (a .marks .now)) (a .n) (limitsHeld (a .k) (a .way) (a .n)) (a .at) (f .0 .0) false (sym (f .1) ∙ b .before .before .before .read-node .ensures .0)
+    (sym (c .if1 .left) ∙ c .before .leaf-closes .ensures ∙ leaf-part (a .ds .now) (a .marks .now) (a .k) (a .n) (a .at) (f .0 .0) (a .way) (omega arith) (omega arith) (omega arith) (s .pre .3) (r .0) (r .1)))
 
 returns-4 : tie.Need-returns-4
 returns-4 c = let b = c .before .before in let s = b .before .before .before .before in let a = s .args in
-    fit-split (a .ds .now) (a .k) (marked (a .marks .now)) (a .n) (limitsHeld (a .k) (a .way) (a .n)) (a .at) true (sym (b .enum-told2 .given .1) ∙ b .before .before .read-node .ensures .0)
-    (sym (c .if2 .taken) ∙ c .before .split-fits .ensures ∙ split-among (a .k) (a .marks .now) (byteAt (a .ds .now) (a .at + 1)) (num2 (a .ds .now) (a .at + 2)) (omega arith) (s .pre .3))
+    fit-told _ _ (fit-split (a .ds .now) (a .k) (marked (a .marks .now)) (a .n) (limitsHeld (a .k) (a .way) (a .n)) (a .at) true (sym (b .enum-told2 .given .1) ∙ b .before .before .read-node .ensures .0)
+    (sym (c .if2 .taken) ∙ c .before .split-fits .ensures ∙ split-among (a .k) (a .marks .now) (byteAt (a .ds .now) (a .at + 1)) (num2 (a .ds .now) (a .at + 2)) (omega arith) (s .pre .3)))
 
 returns-5 : tie.Need-returns-5
 returns-5 c = let b = c .before .before in let s = b .before .before .before .before in let a = s .args in
-    fit-split (a .ds .now) (a .k) (marked (a .marks .now)) (a .n) (limitsHeld (a .k) (a .way) (a .n)) (a .at) false (sym (b .enum-told2 .given .1) ∙ b .before .before .read-node .ensures .0)
-    (sym (c .if2 .left) ∙ c .before .split-fits .ensures ∙ split-among (a .k) (a .marks .now) (byteAt (a .ds .now) (a .at + 1)) (num2 (a .ds .now) (a .at + 2)) (omega arith) (s .pre .3))
+    fit-told _ _ (fit-split (a .ds .now) (a .k) (marked (a .marks .now)) (a .n) (limitsHeld (a .k) (a .way) (a .n)) (a .at) false (sym (b .enum-told2 .given .1) ∙ b .before .before .read-node .ensures .0)
+    (sym (c .if2 .left) ∙ c .before .split-fits .ensures ∙ split-among (a .k) (a .marks .now) (byteAt (a .ds .now) (a .at + 1)) (num2 (a .ds .now) (a .at + 2)) (omega arith) (s .pre .3)))
 
 pub fit-node-spec : {M : Type 1} → statement M
 fit-node-spec =

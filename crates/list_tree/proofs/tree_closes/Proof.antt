@@ -17,79 +17,60 @@ use Rattle.list_tree.proofs.fit_node.Reads as fit-node-reads
 use Rattle.list_tree.proofs.row_limits.Reads as row-limits-reads
 use Rattle.rows.proofs.cell_count.Reads as cell-count-reads
 
--- src/lib.rt:159:9
 returns : tie.Need-returns
 returns c = let a = c .before .before .args in closing-many (a .rows) (a .ds .now) (a .k) (omega arith)
 
--- src/lib.rt:161:16
 add-from : tie.Need-add-from
 add-from c = search needs
 
--- src/lib.rt:162:25
 cell-count-requires : tie.Need-cell-count-requires
 cell-count-requires c κs = search needs
 
--- src/lib.rt:162:25
 sub-start : tie.Need-sub-start
 sub-start c = let e = cells-told (c .before .before .before .args .k) (c .cell-count .result) (omega arith) (c .cell-count .ensures .0) in omega arith
 
--- src/lib.rt:162:17
 add-start : tie.Need-add-start
 add-start c = search needs
 
--- src/lib.rt:164:9
 returns-2 : tie.Need-returns-2
 returns-2 c = let a = c .before .before .before .before .args in let n = c .before .cell-count in let e = cells-told (a .k) (n .result) (omega arith) (n .ensures .0) in closing-cut (a .rows) (a .ds .now) (a .k) (omega arith) (omega arith)
 
--- src/lib.rt:166:9
 row-limits-requires : tie.Need-row-limits-requires
 row-limits-requires c κs = search needs
 
--- src/lib.rt:167:28
 sub-open-cells : tie.Need-sub-open-cells
 sub-open-cells c = search needs
 
--- src/lib.rt:167:28
 part-open-cells-start : tie.Need-part-open-cells-start
 part-open-cells-start c = search needs
 
--- src/lib.rt:167:28
 part-open-cells-end : tie.Need-part-open-cells-end
 part-open-cells-end c = search needs
 
--- src/lib.rt:167:17
 open-cells-requires : tie.Need-open-cells-requires
 open-cells-requires c κs = search needs
 
--- src/lib.rt:169:9
 fit-node-requires : tie.Need-fit-node-requires
 fit-node-requires c κs = let o = c .before .open-cells in let l = c .before .before .before .row-limits in let b = c .before .before .before .before .before .cell-count in let a = c .before .before .before .before .before .before .before .before .args in (omega arith, omega arith, omega arith, among-made (a .k) (take (2 + a .k + (b .result - 1) - (2 + a .k)) (drop (2 + a .k) (a .ds .now))) (o .result) (o .ensures .0) (o .ensures .1))
 
--- src/lib.rt:171:22
 enum-told : tie.Need-enum-told
 enum-told c = search needs
 
--- src/lib.rt:172:20
 enum-known-root : tie.Need-enum-known-root
 enum-known-root c = search needs
 
--- src/lib.rt:173:42
 enum-told-2 : tie.Need-enum-told-2
 enum-told-2 c = search needs
 
--- src/lib.rt:173:28
 closes-at-requires : tie.Need-closes-at-requires
 closes-at-requires c κs = let o = c .before .before .before .before .before .open-cells in let l = c .before .before .before .before .before .before .before .row-limits in let b = c .before .before .before .before .before .before .before .before .before .cell-count in let a = c .before .before .before .before .before .before .before .before .before .before .before .before .args in (omega arith, omega arith, omega arith, l .ensures .0, among-made (a .k) (take (2 + a .k + (b .result - 1) - (2 + a .k)) (drop (2 + a .k) (a .ds .now))) (o .result) (o .ensures .0) (o .ensures .1))
 
--- src/lib.rt:155:1
 returns-3 : tie.Need-returns-3
-returns-3 c = let o = c .before .before .before .before .open-cells in let l = c .before .before .before .before .before .before .row-limits in let b = c .before .before .before .before .before .before .before .before .cell-count in let a = c .before .before .before .before .before .before .before .before .before .before .before .args in let e = cells-told (a .k) (b .result) (omega arith) (b .ensures .0) in closing-told (a .rows) (a .ds .now) (a .k) (l .result) _ (0) (omega arith) (omega arith) (omega arith) (l .ensures .1) (o .result) (o .ensures .0) (o .ensures .1) (closed-off (a .ds .now) (a .k) (marked (o .result)) (a .k) (limitsHeld (a .k) (l .result) (a .k)) (2 + a .k + (b .result - 1)) 8 (sym (c .enum-told .given .1) ∙ c .before .before .fit-node .ensures))
+returns-3 c = let o = c .before .before .before .before .open-cells in let l = c .before .before .before .before .before .before .row-limits in let b = c .before .before .before .before .before .before .before .before .cell-count in let a = c .before .before .before .before .before .before .before .before .before .before .before .args in let e = cells-told (a .k) (b .result) (omega arith) (b .ensures .0) in closing-told (a .rows) (a .ds .now) (a .k) (l .result) _ (0) (omega arith) (omega arith) (omega arith) (l .ensures .1) (o .result) (o .ensures .0) (o .ensures .1) (closed-off (a .ds .now) (a .k) (marked (o .result)) (a .k) (limitsHeld (a .k) (l .result) (a .k)) (2 + a .k + (b .result - 1)) 8 (sym (c .enum-told .given .1) ∙ c .before .before .fit-node .ensures .0))
 
--- src/lib.rt:155:1
 returns-4 : tie.Need-returns-4
-returns-4 c = let o = c .before .before .before .before .before .open-cells in let l = c .before .before .before .before .before .before .before .row-limits in let b = c .before .before .before .before .before .before .before .before .before .cell-count in let a = c .before .before .before .before .before .before .before .before .before .before .before .before .args in let e = cells-told (a .k) (b .result) (omega arith) (b .ensures .0) in closing-told (a .rows) (a .ds .now) (a .k) (l .result) _ (c .before .root .given .0 .0) (omega arith) (omega arith) (omega arith) (l .ensures .1) (o .result) (o .ensures .0) (o .ensures .1) (closed-leaf (a .ds .now) (a .k) (marked (o .result)) (a .k) (limitsHeld (a .k) (l .result) (a .k)) (2 + a .k + (b .result - 1)) 8 (c .before .root .given .0 .0) (sym (c .before .root .given .1) ∙ c .before .before .before .fit-node .ensures))
+returns-4 c = let o = c .before .before .before .before .before .open-cells in let l = c .before .before .before .before .before .before .before .row-limits in let b = c .before .before .before .before .before .before .before .before .before .cell-count in let a = c .before .before .before .before .before .before .before .before .before .before .before .before .args in let e = cells-told (a .k) (b .result) (omega arith) (b .ensures .0) in closing-told (a .rows) (a .ds .now) (a .k) (l .result) _ (c .before .root .given .0 .0) (omega arith) (omega arith) (omega arith) (l .ensures .1) (o .result) (o .ensures .0) (o .ensures .1) (closed-leaf (a .ds .now) (a .k) (marked (o .result)) (a .k) (limitsHeld (a .k) (l .result) (a .k)) (2 + a .k + (b .result - 1)) 8 (c .before .root .given .0 .0) (sym (c .before .root .given .1) ∙ c .before .before .before .fit-node .ensures .0))
 
--- src/lib.rt:155:1
 returns-5 : tie.Need-returns-5
 returns-5 c = let o = c .before .before .before .before .before .before .open-cells in let l = c .before .before .before .before .before .before .before .before .row-limits in let b = c .before .before .before .before .before .before .before .before .before .before .cell-count in let a = c .before .before .before .before .before .before .before .before .before .before .before .before .before .args in let e = cells-told (a .k) (b .result) (omega arith) (b .ensures .0) in closing-told (a .rows) (a .ds .now) (a .k) (l .result) _ (c .closes-at .result) (omega arith) (omega arith) (omega arith) (l .ensures .1) (o .result) (o .ensures .0) (o .ensures .1) (c .closes-at .ensures)
 
