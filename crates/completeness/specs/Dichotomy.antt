@@ -165,7 +165,7 @@ module _ (D : Description) (A : Accepted D) (W : List Literal) where
     pub exclusive : (G : Graph) → Keeps D W G → (C : Refutation) → Closes D W C → ⊥
     exclusive G g C c = let w = graph-sound D A W G g in refutation-sound D A W C c (line D G) (w .0) (w .1)
 
-    -- wherever a graph of any size keeps the rules, one does that has at most 2^entries nodes
+    -- if any graph keeps the rules, one of at most 2^entries nodes does
     pub small-graph : (G : Graph) → Keeps D W G → (H : Graph) × Keeps D W H × (length H ≤ 2 ^ n)
     small-graph G g = elim dichotomy [ inl w ↦ w | inr c ↦ absurd (exclusive G g (c .0) (c .1)) ]
 

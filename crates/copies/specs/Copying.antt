@@ -37,7 +37,7 @@ mostFrom s n x = maxBelow n (totalTo (edgesPart s x))
 unfoldable pub copiesIn : List ℕ → ℕ → ℕ
 copiesIn s n = max 1 (maxBelow n (mostFrom s n))
 
--- the roles of the edge that takes copy j of y, of the k edges from edge i on: each edge to y takes the next `count` copies
+-- the roles of the edge that takes copy j of y, of the k edges from edge i on: an edge to y takes as many as it counts, behind those taken
 unfoldable pub ownerFrom : List ℕ → ℕ → ℕ → ℕ → ℕ → ℕ
 ownerFrom es y zero i j = 0
 ownerFrom es y (suc k) i j = cond (eqb (edgeIn es i .target) y)

@@ -38,7 +38,7 @@ tableOf roles entries root rules = record {
   rule = λ i. getD rules i (pos 0);
 }
 
--- literal 2e is entry e, and 2e + 1 its complement
+-- the literal with a number
 abbrev pub lit : ℕ → Literal
 lit l = literal l
 

@@ -13,7 +13,7 @@ use Rattle.description.specs.Roles.{ancestor}
 use Rattle.interpretation.specs.Meaning.{Interpretation}
 use Rattle.graph.specs.Graphs.{Edge, Graph, labelAt, edgesAt, ofRole, total}
 
--- K: the greatest total of counts from one node to one node, at least 1
+-- K: the most that the counts of the edges from x to y add up to, over all nodes x and y; 1 if there is no edge
 unfoldable pub copies : Graph → ℕ
 copies G = max 1 (maxBelow (length G) (λ x. maxBelow (length G) (λ y. total (edgesAt G x) (λ E. eqb (E .target) y))))
 

@@ -16,7 +16,7 @@ use Rattle.labels.specs.Labels.{num4}
 use Rattle.description.specs.Descriptions.{Description, isName}
 use Rattle.interpretation.specs.Meaning.{Interpretation}
 
--- ---- places: the number d of elements, a name mask of 4 bytes for each, then d rows of d role masks of 2 bytes; row x has the pairs from x
+-- ---- places: the number d of elements, their name masks of 4 bytes, their rows of pairs; row x has a role mask of 2 bytes for each element that x may lead to
 abbrev pub nameAt : ℕ → ℕ
 nameAt x = 1 + 4 * x
 

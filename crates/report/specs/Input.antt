@@ -1,4 +1,4 @@
--- The program's input (01, "Trial descriptions"): a two-byte description length, the description, then evidence. Missing bytes leave either part short.
+-- The two parts of the program's input (01, "Trial descriptions"; FORMAT 10): the description has its length in front, and ends early where bytes are missing.
 use Prim.Native.Nat.{ℕ, _+_}
 use mathlib.Core.Path.{_≡_}
 use mathlib.Core.List.{List}

@@ -1,4 +1,4 @@
--- The line that the program prints (01, "Trial descriptions"): verdict word; refusal number or 0; record or 0. ASCII codes, one space between, one line feed.
+-- The line that the program prints (01, "Trial descriptions"; FORMAT 10): word, number and record in ASCII, a space between two, a line feed behind.
 use Prim.Native.Nat.{ℕ, _+_, _-_, _*_, _/_, _%_, _≤_, _<_}
 use mathlib.Core.Path.{_≡_, refl}
 use mathlib.Core.Bool.{cond}
