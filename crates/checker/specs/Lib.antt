@@ -1,3 +1,1 @@
 pub mod Demands
-pub mod Trials
-pub mod Worked

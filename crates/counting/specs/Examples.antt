@@ -12,9 +12,9 @@ use Rattle.logic.specs.Sums.{sumBelow, only}
 use Rattle.logic.specs.Sets.{has}
 use Rattle.counting.specs.Trees.{Side, lower, upper, sameSide, Limit, limit, share, weight, worth, gap}
 use Rattle.counting.specs.Trees.{Tree, leaf, split, LeafCloses, leafTest, treeTest, formed, depth}
-use Rattle.counting.specs.Rows.{Bound, Solves, Fillers, limits, Closed, closedTest}
-use Rattle.counting.specs.TreeLaws.{gap↔, tree↔}
-use Rattle.counting.specs.Solutions.{limits-hold, closed-sound, closed-no-fillers}
+use Rattle.counting.specs.Rows.{Bound, Solves, limits, Closed, closedTest}
+use Rattle.counting.specs.TreeLaws.{gap↔}
+use Rattle.counting.specs.Solutions.{limits-hold, closed-sound}
 
 abbrev atLeast : ℕ → Bound
 atLeast b = record { side = lower; value = b }
@@ -27,20 +27,10 @@ abbrev passes : List Bound → (ℕ → Bool) → Tree → Bool
 passes rows open? t = closedTest rows open? (λ v. leb v 1000) t
 
 -- ---- the gap
--- P6: at most 1 and at least 3, cells 1 and 2 shown empty, leaf 1, 1
-p6 : (gap (limits (atMost 1 ∷ atLeast 3 ∷ [])) (1 ∷ 1 ∷ []) ≡ pos 2)
-    × (passes (atMost 1 ∷ atLeast 3 ∷ []) (eqb 3) (leaf (1 ∷ 1 ∷ [])) ≡ true)
-unfolding treeTest leafTest allBelow has
-p6 = (refl, refl)
-
-p6-no-fillers : Fillers (atMost 1 ∷ atLeast 3 ∷ []) (eqb 3) → ⊥
-p6-no-fillers = closed-no-fillers (atMost 1 ∷ atLeast 3 ∷ []) (eqb 3) (leaf (1 ∷ 1 ∷ [])) (tree↔ 4 (eqb 3) _ _ (leaf (1 ∷ 1 ∷ [])) .0 (p6 .1) .0)
-
--- P7: leaf 1, 0
-p7 : (gap (limits (atMost 1 ∷ atLeast 3 ∷ [])) (1 ∷ 0 ∷ []) ≡ negsuc 0)
-    × (passes (atMost 1 ∷ atLeast 3 ∷ []) (eqb 3) (leaf (1 ∷ 0 ∷ [])) ≡ false)
-unfolding treeTest leafTest allBelow has
-p7 = (refl, refl)
+-- above zero, zero and below: at most 1 and at least 3, with their multipliers
+gaps : (gap (limits (atMost 1 ∷ atLeast 3 ∷ [])) (1 ∷ 1 ∷ []) ≡ pos 2) × (gap (limits (atMost 1 ∷ atLeast 3 ∷ [])) (3 ∷ 1 ∷ []) ≡ pos 0)
+    × (gap (limits (atMost 1 ∷ atLeast 3 ∷ [])) (1 ∷ 0 ∷ []) ≡ negsuc 0)
+gaps = (refl, refl, refl)
 
 -- at most 3 and at least 3, which three fillers meet: a gap of zero
 zero-gap : (gap (limits (atMost 3 ∷ atLeast 3 ∷ [])) (1 ∷ 1 ∷ []) ≡ pos 0)
@@ -50,14 +40,14 @@ unfolding treeTest leafTest allBelow has sumBelow
 zero-gap = (refl, refl, limits-hold (atMost 3 ∷ atLeast 3 ∷ []) (eqb 3) (λ _. 3) .1 (omega arith))
 
 -- ---- the balance
--- at most 1 and at least 3 again, but cell 2 is open too: three fillers that count in the second row alone meet both
+-- at most 1 and at least 3, where cell 2 is open too: three fillers that count in the second row alone meet both
 unbalanced : (passes (atMost 1 ∷ atLeast 3 ∷ []) (leb 2) (leaf (1 ∷ 1 ∷ [])) ≡ false)
     × Solves (atMost 1 ∷ atLeast 3 ∷ []) (leb 2) (λ c. only (eqb c 2) 3)
 unfolding treeTest leafTest allBelow has sumBelow
 unbalanced = (refl, limits-hold (atMost 1 ∷ atLeast 3 ∷ []) (leb 2) (λ c. only (eqb c 2) 3) .1 (omega arith))
 
 -- ---- splits
--- at most 1 and at least 3 once more, with the cells 0, 3, 4, 5, … open; each half closes by the rows alone
+-- at most 1 and at least 3 again, with the cells 0, 3, 4, 5, … open; each half closes by the rows alone
 splitAt : ℕ → ℕ → Bool
 splitAt c v = passes (atMost 1 ∷ atLeast 3 ∷ []) (λ c. eqb c 0 || leb 3 c) (split c v (leaf (1 ∷ 1 ∷ 0 ∷ [])) (leaf (1 ∷ 1 ∷ 0 ∷ [])))
 
@@ -143,7 +133,7 @@ pairs : ℕ → Bool
 pairs c = eqb c 15 || (eqb c 51 || eqb c 60)
 
 -- no filler has A and B: then one has A and C and one has B and C, which makes two C. One has: then no other has A or B, and none has C.
-abc-tree : Tree
+unfoldable pub abc-tree : Tree
 abc-tree = split 15 0 (leaf (1 ∷ 0 ∷ 1 ∷ 0 ∷ 0 ∷ 1 ∷ 2 ∷ [])) (leaf (0 ∷ 1 ∷ 0 ∷ 1 ∷ 1 ∷ 0 ∷ 2 ∷ []))
 
 abc-closed : (passes (abc 1) pairs abc-tree ≡ true) × (formed 6 abc-tree ≡ true)

@@ -1,5 +1,5 @@
 -- Worked examples: tests 3 to 8 of a description, each on both sides, their order, ancestors and simple roles.
-use Prim.Native.Nat.{ℕ}
+use Prim.Native.Nat.{ℕ, _+_, _^_}
 use mathlib.Core.Path.{_≡_, refl}
 use mathlib.Core.Bool.{Bool, true, false}
 use mathlib.Core.List.{List, [], _∷_, map}
@@ -42,6 +42,11 @@ tableOf roles entries root rules = record {
 abbrev pub lit : ℕ → Literal
 lit l = literal l
 
+-- a set by its members, such as a label by its literals' numbers
+abbrev pub bits : List ℕ → ℕ
+bits [] = 0
+bits (l ∷ ls) = 2 ^ l + bits ls
+
 -- ---- descriptions and the number of their refusal
 record Trial : Type 0 where
   pub given : Description
@@ -63,15 +68,8 @@ chained = ofRoles (transitiveUnder 2 ∷ under 0 ∷ [])
 
 trials : List Trial
 trials =
-    -- P1
-    ofEntries (top ∷ []) none
-    -- P8: "every" on role 1 only; and on both
-    ∷ chained (top ∷ name ∷ every 1 (lit 2) ∷ []) (some 7)
-    ∷ chained (top ∷ name ∷ every 1 (lit 2) ∷ every 0 (lit 2) ∷ []) none
-    -- P9: "at least" on role 1
-    ∷ chained (top ∷ atLeast 1 (lit 0) 1 ∷ []) (some 5)
     -- 3: a parent bit past the last role is refused; the last role's, and the own, are not
-    ∷ ofRoles (under 2 ∷ []) (top ∷ []) (some 3)
+    ofRoles (under 2 ∷ []) (top ∷ []) (some 3)
     ∷ ofRoles (under 0 ∷ under 4 ∷ []) (top ∷ []) (some 3)
     ∷ ofRoles (under 1 ∷ []) (top ∷ []) none
     ∷ ofRoles (under 3 ∷ under 3 ∷ []) (top ∷ []) none
@@ -115,6 +113,7 @@ trials =
     ∷ ofRoles (under 0 ∷ under 0 ∷ []) (top ∷ every 0 (lit 0) ∷ every 1 (lit 0) ∷ every 0 (lit 1) ∷ []) none
     ∷ ofRoles (under 0 ∷ under 0 ∷ []) (top ∷ every 0 (lit 0) ∷ atLeast 0 (lit 0) 1 ∷ atLeast 0 (lit 0) 2 ∷ atLeast 1 (lit 0) 1 ∷ []) none
     -- 7: the "every T l" may stand later or earlier, of the same role and literal; a role under R that is not transitive asks for none
+    ∷ chained (top ∷ name ∷ every 1 (lit 2) ∷ every 0 (lit 2) ∷ []) none
     ∷ chained (top ∷ name ∷ every 0 (lit 2) ∷ every 1 (lit 2) ∷ []) none
     ∷ chained (top ∷ name ∷ every 1 (lit 2) ∷ every 0 (lit 3) ∷ []) (some 7)
     ∷ chained (top ∷ name ∷ every 0 (lit 2) ∷ []) none

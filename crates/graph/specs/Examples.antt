@@ -1,12 +1,10 @@
--- Worked examples: P1, P3, P4 and P5 of 01 on data, and both sides of each clause that the theorems alone do not pin.
-use Prim.Native.Nat.{ℕ, _+_, _^_}
+-- Worked examples: both sides of each clause that the theorems alone do not pin.
+use Prim.Native.Nat.{ℕ}
 use mathlib.Core.Path.{_≡_, refl}
-use mathlib.Core.Bool.{false}
 use mathlib.Core.List.{List, [], _∷_}
 use mathlib.Core.Option.{Option, none, some}
 use native.Mathlib.Omega.{arith}
-use lib.Dec.{eqb}
-use lib.ListN.{length, getD, replicate}
+use lib.ListN.{replicate}
 use Rattle.logic.specs.Bounded.{allBelow, anyBelow}
 use Rattle.logic.specs.Lists.{each, some?, tabulate}
 use Rattle.logic.specs.Sums.{maxBelow}
@@ -15,42 +13,28 @@ use Rattle.logic.specs.Sets.{has, nonempty, narrow, setOf}
 use Rattle.logic.specs.Refusals.{Refusal, refuseFrom}
 use Rattle.description.specs.Literals.{Literal, pos, neg, members}
 use Rattle.description.specs.Descriptions.{Entry, top, name, both, every, atLeast, Description, sameEntry, ifBoth, ifEvery, ifLeast}
-use Rattle.description.specs.Roles.{ancestor, simple}
-use Rattle.description.specs.Acceptance.{entryTest, descriptionRefusal, descriptionTests, accepted↔}
-use Rattle.interpretation.specs.Models.{Model, Satisfies}
+use Rattle.description.specs.Roles.{ancestor}
+use Rattle.description.specs.Examples.{under, transitiveUnder, tableOf, bits}
 use Rattle.graph.specs.Graphs.{Edge, Node, Graph, total, Keeps, GraphLimits}
-use Rattle.graph.specs.GraphTests.{anyGraph, storedGraph, labelTest, bothTest, edgeTest, everyTest, countTest, nodeRefusal, graphRefusal, lifted-graph↔}
+use Rattle.graph.specs.GraphTests.{anyGraph, storedGraph, labelTest, bothTest, edgeTest, everyTest, countTest}
+use Rattle.graph.specs.GraphTests.{nodeRefusal, graphRefusal}
 use Rattle.graph.specs.Line.{copies, joins, direct, pairs, line}
-use Rattle.graph.specs.Sound.{graph-sound}
 
--- a set of literals by their numbers
-abbrev bits : List ℕ → ℕ
-bits [] = 0
-bits (l ∷ ls) = 2 ^ l + bits ls
-
-abbrev edge : ℕ → ℕ → ℕ → Edge
+-- an edge by its target, mask and count
+abbrev pub edge : ℕ → ℕ → ℕ → Edge
 edge y m c = record { target = y; mask = m; count = c }
 
-abbrev node : List ℕ → List Edge → Node
+abbrev pub node : List ℕ → List Edge → Node
 node ls es = record { label = bits ls; edges = es }
 
 -- one role
 abbrev plain : List Entry → Description
-plain es = record {
-  roles = 1;
-  transitive = λ _. false;
-  parents = λ _. 0;
-  entries = length es;
-  entry = λ e. getD es e top;
-  root = pos 0;
-  rules = 0;
-  rule = λ _. pos 0;
-}
+plain es = tableOf (under 0 ∷ []) es (pos 0) []
 
 abbrev tops : Description
 tops = plain (top ∷ [])
 
--- P3 to P5: literal 2 at least 2, 4 at least 3, 6 both (2, 5), 8 both (3, 4)
+-- literal 2 at least 2, 4 at least 3, 6 both (2, 5), 8 both (3, 4), as in P3
 abbrev trial : Description
 trial = plain (top ∷ atLeast 0 (pos 0) 2 ∷ atLeast 0 (pos 0) 3 ∷ both (pos 1) (neg 2) ∷ both (neg 1) (pos 2) ∷ [])
 
@@ -59,17 +43,8 @@ abbrev few : Description
 few = plain (top ∷ name ∷ atLeast 0 (pos 1) 2 ∷ every 0 (pos 1) ∷ name ∷ [])
 
 -- role 0 transitive, under role 1; literal 2 a name, 4 and 6 "every" of it on role 0 and on role 1
-abbrev under : Description
-under = record {
-  roles = 2;
-  transitive = λ r. eqb r 0;
-  parents = λ r. getD (2 ∷ 0 ∷ []) r 0;
-  entries = 4;
-  entry = λ e. getD (top ∷ name ∷ every 0 (pos 1) ∷ every 1 (pos 1) ∷ []) e top;
-  root = pos 0;
-  rules = 0;
-  rule = λ _. pos 0;
-}
+abbrev chained : Description
+chained = tableOf (transitiveUnder 2 ∷ under 0 ∷ []) (top ∷ name ∷ every 0 (pos 1) ∷ every 1 (pos 1) ∷ []) (pos 0) []
 
 -- P3's graph with that count, and with that label at record 0
 abbrev pair : List ℕ → ℕ → Graph
@@ -105,16 +80,12 @@ root = pos 3 ∷ []
 
 rows : List Row
 rows =
-    -- P1, P3, P5
-    row anyGraph tops (pos 0 ∷ []) (node (0 ∷ []) [] ∷ []) none
-    ∷ row anyGraph trial root (P3 2) none
-    ∷ row anyGraph trial root (P3 1) (refused 15 0)
-    ∷ row anyGraph trial root (P3 3) (refused 15 0)
     -- 11: the last literal of the table, and one past it; literal 0 missing
-    ∷ row anyGraph few [] (node (0 ∷ 9 ∷ []) [] ∷ []) none
+    row anyGraph few [] (node (0 ∷ 9 ∷ []) [] ∷ []) none
     ∷ row anyGraph few [] (node (0 ∷ 10 ∷ []) [] ∷ []) (refused 11 0)
     ∷ row anyGraph few [] (node (2 ∷ []) [] ∷ []) (refused 11 0)
     -- what is wanted is wanted of record 0 alone (P3's record 1 lacks it), before rule 12
+    ∷ row anyGraph trial root (P3 2) none
     ∷ row anyGraph trial root (node (0 ∷ []) [] ∷ []) (refused 11 0)
     ∷ row anyGraph trial root (node (0 ∷ 8 ∷ []) [] ∷ []) (refused 11 0)
     ∷ row anyGraph trial [] (node (0 ∷ 8 ∷ []) [] ∷ []) (refused 12 0)
@@ -126,11 +97,11 @@ rows =
     ∷ row anyGraph tops [] (loop (edge 0 0 1)) (refused 13 0)
     ∷ row anyGraph tops [] (loop (edge 0 3 1)) (refused 13 0)
     ∷ row anyGraph tops [] (loop (edge 0 1 0)) (refused 13 0)
-    ∷ row anyGraph under [] (loop (edge 0 2 1)) none
-    ∷ row anyGraph under [] (loop (edge 0 3 1)) none
-    ∷ row anyGraph under [] (loop (edge 0 1 1)) (refused 13 0)
+    ∷ row anyGraph chained [] (loop (edge 0 2 1)) none
+    ∷ row anyGraph chained [] (loop (edge 0 3 1)) none
+    ∷ row anyGraph chained [] (loop (edge 0 1 1)) (refused 13 0)
     -- 13 before 14, 14 before 15; but an earlier record comes before a smaller number
-    ∷ row anyGraph under [] (node (0 ∷ 7 ∷ []) (edge 0 1 1 ∷ []) ∷ []) (refused 13 0)
+    ∷ row anyGraph chained [] (node (0 ∷ 7 ∷ []) (edge 0 1 1 ∷ []) ∷ []) (refused 13 0)
     ∷ row anyGraph few [] (node (0 ∷ 4 ∷ 7 ∷ []) [] ∷ []) (refused 14 0)
     ∷ row anyGraph few [] (node (0 ∷ 4 ∷ []) [] ∷ node [] [] ∷ []) (refused 15 0)
     ∷ row anyGraph few [] (node (0 ∷ []) [] ∷ node [] [] ∷ []) (refused 11 1)
@@ -146,14 +117,14 @@ rows =
     ∷ row storedGraph tops [] (node [] [] ∷ node (0 ∷ []) (replicate 33 (edge 0 1 1)) ∷ []) (refused 10 1)
     ∷ row anyGraph tops [] (node (0 ∷ []) (replicate 33 (edge 0 1 1)) ∷ []) none
     -- 14: on an edge of role 1 alone "every" passes its literal on, on one of role 0 too the "every" of role 0 as well
-    ∷ row anyGraph under [] (two (0 ∷ 6 ∷ []) 2 (0 ∷ [])) (refused 14 0)
-    ∷ row anyGraph under [] (two (0 ∷ 6 ∷ []) 2 (0 ∷ 2 ∷ [])) none
-    ∷ row anyGraph under [] (two (0 ∷ 6 ∷ []) 3 (0 ∷ 2 ∷ [])) (refused 14 0)
-    ∷ row anyGraph under [] (two (0 ∷ 6 ∷ []) 3 (0 ∷ 4 ∷ [])) (refused 14 0)
-    ∷ row anyGraph under [] (two (0 ∷ 6 ∷ []) 3 (0 ∷ 2 ∷ 4 ∷ [])) none
+    ∷ row anyGraph chained [] (two (0 ∷ 6 ∷ []) 2 (0 ∷ [])) (refused 14 0)
+    ∷ row anyGraph chained [] (two (0 ∷ 6 ∷ []) 2 (0 ∷ 2 ∷ [])) none
+    ∷ row anyGraph chained [] (two (0 ∷ 6 ∷ []) 3 (0 ∷ 2 ∷ [])) (refused 14 0)
+    ∷ row anyGraph chained [] (two (0 ∷ 6 ∷ []) 3 (0 ∷ 4 ∷ [])) (refused 14 0)
+    ∷ row anyGraph chained [] (two (0 ∷ 6 ∷ []) 3 (0 ∷ 2 ∷ 4 ∷ [])) none
     -- its complement: a target lacks the literal by holding the opposite
-    ∷ row anyGraph under [] (two (0 ∷ 7 ∷ []) 2 (0 ∷ [])) (refused 14 0)
-    ∷ row anyGraph under [] (two (0 ∷ 7 ∷ []) 2 (0 ∷ 3 ∷ [])) none
+    ∷ row anyGraph chained [] (two (0 ∷ 7 ∷ []) 2 (0 ∷ [])) (refused 14 0)
+    ∷ row anyGraph chained [] (two (0 ∷ 7 ∷ []) 2 (0 ∷ 3 ∷ [])) none
     -- 15: under "at most" each target has the literal or its opposite
     ∷ row anyGraph few [] (two (0 ∷ 5 ∷ []) 1 (0 ∷ [])) (refused 15 0)
     ∷ row anyGraph few [] (two (0 ∷ 5 ∷ []) 1 (0 ∷ 2 ∷ [])) none
@@ -180,12 +151,6 @@ refusals = refl
 no-node : (D : Description) (W : List Literal) → Keeps D W [] → ⊥
 no-node D W k = omega (arith, k .some-node)
 
--- the soundness theorem is not empty: P3's graph keeps the rules
-p3-model : Model trial (line trial (P3 2)) × Satisfies trial root (line trial (P3 2))
-unfolding graphRefusal nodeRefusal refuseFrom labelTest bothTest edgeTest everyTest countTest total descriptionTests entryTest simple
-    members has nonempty narrow allBelow anyBelow each some? ifBoth ifEvery ifLeast sameEntry ancestor closure
-p3-model = graph-sound trial (accepted↔ trial .0 (omega arith, (omega arith, refl))) root (P3 2) (lifted-graph↔ trial root (P3 2) .0 (omega arith, refl))
-
 -- ---- lines
 -- for each element the set of its fillers, and the set of its names
 abbrev fillers : Description → Graph → ℕ → List ℕ
@@ -193,12 +158,6 @@ fillers D G r = tabulate (line D G .size) (λ z. setOf (line D G .size) (line D 
 
 abbrev names : Description → Graph → List ℕ
 names D G = tabulate (line D G .size) (λ z. setOf (D .entries) (λ e. line D G .name e z))
-
--- P4: two copies of each record, so four elements; 0 and 1 each to 2 and 3, and no other pair; no names
-p4 : (copies (P3 2) ≡ 2) × (line trial (P3 2) .size ≡ 4)
-    × (fillers trial (P3 2) 0 ≡ (bits (2 ∷ 3 ∷ []) ∷ bits (2 ∷ 3 ∷ []) ∷ 0 ∷ 0 ∷ [])) × (names trial (P3 2) ≡ (0 ∷ 0 ∷ 0 ∷ 0 ∷ []))
-unfolding copies maxBelow total tabulate setOf pairs direct joins has anyBelow
-p4 = (refl, refl, refl, refl)
 
 -- a name in the label is a name of each copy; no other entry is
 named : names few (two (0 ∷ 2 ∷ 4 ∷ []) 1 (0 ∷ 4 ∷ [])) ≡ (bits (1 ∷ []) ∷ 0 ∷ [])
@@ -209,9 +168,10 @@ named = refl
 abbrev apart : List Edge → Graph
 apart es = node (0 ∷ []) (edge 1 3 1 ∷ es) ∷ node (0 ∷ []) [] ∷ []
 
-next-copies : (fillers under (apart (edge 1 2 2 ∷ [])) 0 ≡ (bits (3 ∷ []) ∷ bits (3 ∷ []) ∷ bits (3 ∷ []) ∷ 0 ∷ 0 ∷ 0 ∷ []))
-    × (fillers under (apart (edge 1 2 2 ∷ [])) 1 ≡ (bits (3 ∷ 4 ∷ 5 ∷ []) ∷ bits (3 ∷ 4 ∷ 5 ∷ []) ∷ bits (3 ∷ 4 ∷ 5 ∷ []) ∷ 0 ∷ 0 ∷ 0 ∷ []))
-    × (fillers under (apart (edge 0 2 1 ∷ edge 1 2 1 ∷ [])) 1 ≡ (bits (0 ∷ 2 ∷ 3 ∷ []) ∷ bits (0 ∷ 2 ∷ 3 ∷ []) ∷ 0 ∷ 0 ∷ []))
+next-copies : (fillers chained (apart (edge 1 2 2 ∷ [])) 0 ≡ (bits (3 ∷ []) ∷ bits (3 ∷ []) ∷ bits (3 ∷ []) ∷ 0 ∷ 0 ∷ 0 ∷ []))
+    × (fillers chained (apart (edge 1 2 2 ∷ [])) 1
+    ≡ (bits (3 ∷ 4 ∷ 5 ∷ []) ∷ bits (3 ∷ 4 ∷ 5 ∷ []) ∷ bits (3 ∷ 4 ∷ 5 ∷ []) ∷ 0 ∷ 0 ∷ 0 ∷ []))
+    × (fillers chained (apart (edge 0 2 1 ∷ edge 1 2 1 ∷ [])) 1 ≡ (bits (0 ∷ 2 ∷ 3 ∷ []) ∷ bits (0 ∷ 2 ∷ 3 ∷ []) ∷ 0 ∷ 0 ∷ []))
 unfolding copies maxBelow total tabulate setOf pairs direct joins has anyBelow ancestor closure
 next-copies = (refl, refl, refl)
 
@@ -219,7 +179,8 @@ next-copies = (refl, refl, refl)
 abbrev chain : ℕ → Graph
 chain m = node (0 ∷ []) (edge 1 m 1 ∷ []) ∷ node (0 ∷ []) (edge 2 m 1 ∷ []) ∷ node (0 ∷ []) [] ∷ []
 
-closed : (fillers under (chain 3) 0 ≡ (bits (1 ∷ 2 ∷ []) ∷ bits (2 ∷ []) ∷ 0 ∷ [])) × (fillers under (chain 3) 1 ≡ (bits (1 ∷ 2 ∷ []) ∷ bits (2 ∷ []) ∷ 0 ∷ []))
-    × (fillers under (chain 2) 0 ≡ (0 ∷ 0 ∷ 0 ∷ [])) × (fillers under (chain 2) 1 ≡ (bits (1 ∷ []) ∷ bits (2 ∷ []) ∷ 0 ∷ []))
+closed : (fillers chained (chain 3) 0 ≡ (bits (1 ∷ 2 ∷ []) ∷ bits (2 ∷ []) ∷ 0 ∷ []))
+    × (fillers chained (chain 3) 1 ≡ (bits (1 ∷ 2 ∷ []) ∷ bits (2 ∷ []) ∷ 0 ∷ []))
+    × (fillers chained (chain 2) 0 ≡ (0 ∷ 0 ∷ 0 ∷ [])) × (fillers chained (chain 2) 1 ≡ (bits (1 ∷ []) ∷ bits (2 ∷ []) ∷ 0 ∷ []))
 unfolding copies maxBelow total tabulate setOf pairs direct joins has anyBelow ancestor closure
 closed = (refl, refl, refl, refl)

@@ -1,4 +1,5 @@
--- Worked examples: tests 10 and 16 to 20 of refutations, each on both sides, their order, the rows, and what is known of a cell.
+-- Worked examples: both sides of each clause of 10 and 16 to 20 that the theorems alone do not pin, their order,
+-- the rows, and what is known of a cell.
 use Prim.Native.Nat.{ℕ, zero, suc}
 use mathlib.Core.Path.{_≡_, refl}
 use mathlib.Core.List.{List, [], _∷_, _++_, map}
@@ -11,36 +12,28 @@ use Rattle.logic.specs.Sets.{has, narrow, within, with, setOf}
 use Rattle.logic.specs.Refusals.{Refusal, refuseFrom}
 use Rattle.counting.specs.Trees.{lower, upper, Tree, leaf, split, formed, depth, leafTest, treeTest}
 use Rattle.description.specs.Literals.{Literal, literal, members, adding, labelOf}
-use Rattle.description.specs.Descriptions.{Entry, top, name, both, every, atLeast, Description, sameEntry, isBoth, ifEvery, ifLeast}
-use Rattle.description.specs.Roles.{ancestor, simple}
-use Rattle.description.specs.Acceptance.{entryTest, descriptionRefusal, descriptionTests, Accepted, accepted↔}
-use Rattle.description.specs.Examples.{Role, under, transitiveUnder, tableOf, lit}
-use Rattle.interpretation.specs.Meaning.{Interpretation}
-use Rattle.interpretation.specs.Models.{Model, Satisfies}
+use Rattle.description.specs.Descriptions.{Entry, top, name, both, every, atLeast, Description, sameEntry, isBoth}
+use Rattle.description.specs.Roles.{ancestor}
+use Rattle.description.specs.Examples.{Role, under, transitiveUnder, tableOf, lit, bits}
 use Rattle.refutation.specs.Cells.{rowOf, rowsOf, bounds, cellRole, known}
 use Rattle.refutation.specs.Records.{Cell, unshown, cited, Step, contradiction, conjunction, disjunction, byRule, caseSplit, counting}
 use Rattle.refutation.specs.Records.{Record, Refutation, Closes, RefutationLimits}
 use Rattle.refutation.specs.RecordTests.{anyRefutation, storedRefutation, whenCounting, ifCited, citeTest, stepTest, knownLabel, recordRefusal}
-use Rattle.refutation.specs.RecordTests.{endLabel, refutationRefusal, lifted-refutation↔}
-use Rattle.refutation.specs.Sound.{refutation-sound}
+use Rattle.refutation.specs.RecordTests.{endLabel, refutationRefusal}
 
--- literals, and a label, by their numbers
+-- literals by their numbers
 abbrev lits : List ℕ → List Literal
 lits = map (λ l. lit l)
 
-abbrev set : List ℕ → ℕ
-set [] = 0
-set (l ∷ ls) = with (set ls) l
-
 -- a record: no element has these literals, by that step
-abbrev noneHas : List ℕ → Step → Record
-noneHas label step = record { label = set label; step = step }
+abbrev pub noneHas : List ℕ → Step → Record
+noneHas label step = record { label = bits label; step = step }
 
 -- step 1 by the literal's number, and step 6
-abbrev clash : ℕ → Step
+abbrev pub clash : ℕ → Step
 clash l = contradiction (lit l)
 
-abbrev count : List ℕ → List Cell → Tree → Step
+abbrev pub count : List ℕ → List Cell → Tree → Step
 count rows cells tree = counting (record { rows = lits rows; cells = cells; tree = tree })
 
 record Trial : Type 0 where
@@ -59,50 +52,28 @@ trial lim D wanted C answer = record { limits = lim; given = D; wanted = lits wa
 abbrev stored : Description → List ℕ → Refutation → Option Refusal → Trial
 stored = trial storedRefutation
 
-abbrev lifted : Description → List ℕ → Refutation → Option Refusal → Trial
-lifted = trial anyRefutation
-
 -- name A; literal 4: at least one filler has A; one rule
 ruled : ℕ → Description
 ruled l = tableOf (under 0 ∷ []) (top ∷ name ∷ atLeast 0 (lit 2) 1 ∷ []) (lit 0) (lit l ∷ [])
 
--- ---- P2, P6, P7 and the end
-topOnly : Description
-topOnly = tableOf (under 0 ∷ []) (top ∷ []) (lit 1) []
-
+-- ---- the end
 -- the table of P3 to P7: entries 1 "at least 2", 2 "at least 3", both of top; 3 both(2, 5); 4 both(3, 4)
 limited : Description
 limited = tableOf (under 0 ∷ []) (top ∷ atLeast 0 (lit 0) 2 ∷ atLeast 0 (lit 0) 3 ∷ both (lit 2) (lit 5) ∷ both (lit 3) (lit 4) ∷ []) (lit 8) []
 
-p2 : Refutation
-p2 = noneHas (1 ∷ []) (clash 1) ∷ []
-
--- P6 with another leaf, and with another last label
-p6-with : List ℕ → List ℕ → Refutation
-p6-with multipliers end =
+-- P6 with another last label
+p6-with : List ℕ → Refutation
+p6-with end =
     noneHas (1 ∷ []) (clash 1)
-    ∷ noneHas (3 ∷ 4 ∷ []) (count (3 ∷ 4 ∷ []) (cited 0 ∷ cited 0 ∷ unshown ∷ []) (leaf multipliers))
+    ∷ noneHas (3 ∷ 4 ∷ []) (count (3 ∷ 4 ∷ []) (cited 0 ∷ cited 0 ∷ unshown ∷ []) (leaf (1 ∷ 1 ∷ [])))
     ∷ noneHas end (conjunction 4 1)
     ∷ []
 
-p6 : Refutation
-p6 = p6-with (1 ∷ 1 ∷ []) (8 ∷ [])
-
 endTrials : List Trial
 endTrials =
-    -- P2, P6, P7, lifted too
-    stored topOnly (1 ∷ []) p2 none
-    ∷ lifted topOnly (1 ∷ []) p2 none
-    ∷ stored limited (8 ∷ []) p6 none
-    ∷ lifted limited (8 ∷ []) p6 none
-    ∷ stored limited (8 ∷ []) (p6-with (1 ∷ 0 ∷ []) (8 ∷ [])) (refused 19 1)
-    ∷ lifted limited (8 ∷ []) (p6-with (1 ∷ 0 ∷ []) (8 ∷ [])) (refused 19 1)
     -- 20: the last label may hold literal 0 beside the root, and nothing else
-    ∷ stored limited (8 ∷ []) (p6-with (1 ∷ 1 ∷ []) (0 ∷ 8 ∷ [])) none
-    ∷ stored limited (8 ∷ []) (p6-with (1 ∷ 1 ∷ []) (0 ∷ 2 ∷ 8 ∷ [])) (refused 20 2)
-    ∷ stored limited (8 ∷ []) (p6-with (1 ∷ 1 ∷ []) (8 ∷ 9 ∷ [])) (refused 20 2)
-    ∷ stored topOnly [] p2 (refused 20 0)
-    ∷ stored topOnly (0 ∷ []) p2 (refused 20 0)
+    stored limited (8 ∷ []) (p6-with (0 ∷ 8 ∷ [])) none
+    ∷ stored limited (8 ∷ []) (p6-with (0 ∷ 2 ∷ 8 ∷ [])) (refused 20 2)
     -- of several wanted literals it may hold each
     ∷ stored limited (2 ∷ 3 ∷ []) (noneHas (2 ∷ 3 ∷ []) (clash 2) ∷ []) none
     ∷ stored limited (2 ∷ []) (noneHas (2 ∷ 3 ∷ []) (clash 2) ∷ []) (refused 20 0)
@@ -110,7 +81,7 @@ endTrials =
     ∷ stored (ruled 2) (3 ∷ []) (noneHas (2 ∷ 3 ∷ []) (clash 2) ∷ []) (refused 20 0)
     ∷ stored (ruled 2) (3 ∷ []) (noneHas (2 ∷ 3 ∷ []) (clash 2) ∷ noneHas (3 ∷ []) (byRule 0 0) ∷ []) none
     -- a rule of the last record comes before
-    ∷ stored limited (8 ∷ []) (p6-with (1 ∷ 1 ∷ []) (0 ∷ 2 ∷ [])) (refused 17 2)
+    ∷ stored limited (8 ∷ []) (p6-with (0 ∷ 2 ∷ [])) (refused 17 2)
     ∷ []
 
 -- ---- steps 1 to 5
@@ -136,29 +107,19 @@ stepTrials =
     ofStep (2 ∷ 3 ∷ []) (clash 2) none
     ∷ ofStep (2 ∷ 3 ∷ []) (clash 3) none
     ∷ ofStep (2 ∷ []) (clash 2) (refused 17 0)
-    ∷ ofStep (2 ∷ []) (clash 3) (refused 17 0)
-    ∷ ofStep (2 ∷ 5 ∷ []) (clash 2) (refused 17 0)
-    -- 0 counts as in L, 1 does not
+    -- 0 counts as in L
     ∷ ofStep (1 ∷ []) (clash 1) none
-    ∷ ofStep (1 ∷ []) (clash 0) none
     ∷ ofStep [] (clash 0) (refused 17 0)
-    ∷ ofStep (0 ∷ []) (clash 1) (refused 17 0)
-    -- step 2: a "both" in L, not its complement, and no other kind; within L plus both literals
+    -- step 2: a "both" in L, and no other kind; within L plus both literals
     ∷ ofNext (6 ∷ []) (conjunction 3 0) none
     ∷ ofNext [] (conjunction 3 0) (refused 17 6)
-    ∷ ofNext (7 ∷ []) (conjunction 3 0) (refused 17 6)
     ∷ ofNext (2 ∷ 3 ∷ []) (conjunction 1 0) (refused 17 6)
-    ∷ ofNext (8 ∷ []) (conjunction 4 0) (refused 17 6)
-    ∷ ofNext (8 ∷ []) (conjunction 4 3) none
     -- 0 does not count as in L here
     ∷ ofNext (6 ∷ []) (conjunction 3 2) (refused 17 6)
     ∷ ofNext (0 ∷ 6 ∷ []) (conjunction 3 2) none
     -- step 3: the complement of a "both" in L; the first cite within L plus the opposite of the first, the second of the second
     ∷ ofNext (2 ∷ 4 ∷ 9 ∷ []) (disjunction 4 0 1) none
     ∷ ofNext (2 ∷ 4 ∷ 9 ∷ []) (disjunction 4 1 0) (refused 17 6)
-    ∷ ofNext (2 ∷ 4 ∷ 9 ∷ []) (disjunction 4 0 0) (refused 17 6)
-    ∷ ofNext (2 ∷ 4 ∷ 9 ∷ []) (disjunction 4 1 1) (refused 17 6)
-    ∷ ofNext (2 ∷ 4 ∷ 8 ∷ []) (disjunction 4 0 1) (refused 17 6)
     ∷ ofNext (2 ∷ 3 ∷ 4 ∷ []) (disjunction 1 0 0) (refused 17 6)
     -- 0 counts as in L only if it is, for the first cite and for the second; a rule counts for neither
     ∷ ofNext (2 ∷ 4 ∷ 9 ∷ []) (disjunction 4 2 1) (refused 17 6)
@@ -166,20 +127,15 @@ stepTrials =
     ∷ ofNext (2 ∷ 4 ∷ 9 ∷ []) (disjunction 4 0 5) (refused 17 6)
     ∷ ofNext (0 ∷ 2 ∷ 4 ∷ 9 ∷ []) (disjunction 4 0 5) none
     ∷ ofNext (4 ∷ 9 ∷ []) (disjunction 4 0 1) (refused 17 6)
-    -- step 4: within L plus that rule, not another
-    ∷ ofNext (2 ∷ []) (byRule 0 0) none
+    -- step 4: within L plus that rule, as records 3 and 4 are, not another
     ∷ ofNext (2 ∷ []) (byRule 1 0) (refused 17 6)
-    ∷ ofNext (3 ∷ []) (byRule 1 0) none
     ∷ ofNext (2 ∷ []) (byRule 0 2) (refused 17 6)
     ∷ ofNext (0 ∷ 2 ∷ []) (byRule 0 2) none
     -- step 5: the first cite within L plus 2e, the second within L plus 2e + 1; of any entry, top too
     ∷ ofNext [] (caseSplit 1 3 4) none
     ∷ ofNext [] (caseSplit 1 4 3) (refused 17 6)
-    ∷ ofNext [] (caseSplit 1 3 3) (refused 17 6)
-    ∷ ofNext [] (caseSplit 1 4 4) (refused 17 6)
     ∷ ofNext (1 ∷ []) (caseSplit 0 5 5) (refused 17 6)
     ∷ ofNext (0 ∷ []) (caseSplit 0 5 5) none
-    ∷ ofNext [] (caseSplit 1 5 5) (refused 17 6)
     ∷ ofNext [] (caseSplit 1 5 4) (refused 17 6)
     ∷ ofNext (0 ∷ []) (caseSplit 1 5 4) none
     -- 16: a literal, an entry or a rule of the table
@@ -192,14 +148,8 @@ stepTrials =
     ∷ ofNext (2 ∷ []) (byRule 2 0) (refused 16 6)
     ∷ ofNext (2 ∷ 3 ∷ []) (caseSplit 4 0 0) none
     ∷ ofNext (2 ∷ 3 ∷ []) (caseSplit 5 0 0) (refused 16 6)
-    -- 16: an earlier record, not the record itself or a later one, though its label lies within
+    -- 16: an earlier record, not the record itself, though its label lies within
     ∷ ofNext (6 ∷ []) (conjunction 3 6) (refused 16 6)
-    ∷ ofNext (6 ∷ []) (conjunction 3 7) (refused 16 6)
-    ∷ ofNext (7 ∷ []) (disjunction 3 6 3) (refused 16 6)
-    ∷ ofNext (7 ∷ []) (disjunction 3 3 6) (refused 16 6)
-    ∷ ofNext (2 ∷ []) (byRule 0 6) (refused 16 6)
-    ∷ ofNext (2 ∷ []) (caseSplit 1 6 0) (refused 16 6)
-    ∷ ofNext (2 ∷ []) (caseSplit 1 3 6) (refused 16 6)
     -- records rising: 17 of an earlier record before 16 of a later
     ∷ ofSteps (noneHas (2 ∷ []) (clash 2) ∷ noneHas (2 ∷ []) (clash 10) ∷ []) (refused 17 0)
     ∷ ofSteps (noneHas (2 ∷ 3 ∷ []) (clash 2) ∷ noneHas (2 ∷ []) (clash 10) ∷ noneHas (2 ∷ []) (clash 2) ∷ []) (refused 16 1)
@@ -227,9 +177,9 @@ chain : ℕ → List ℕ → Tree
 chain zero multipliers = leaf multipliers
 chain (suc d) multipliers = split 3 0 (leaf (multipliers ++ (0 ∷ []))) (chain d (multipliers ++ (0 ∷ [])))
 
--- a split of cell c at v, likewise
-splitAt : ℕ → ℕ → Tree
-splitAt c v = split c v (leaf (1 ∷ 1 ∷ 0 ∷ [])) (leaf (1 ∷ 1 ∷ 0 ∷ []))
+-- a split of cell 3 at v, likewise
+splitAt : ℕ → Tree
+splitAt v = split 3 v (leaf (1 ∷ 1 ∷ 0 ∷ [])) (leaf (1 ∷ 1 ∷ 0 ∷ []))
 
 -- 4n + 3 cells, of which those in row 1 and not in row 0 are shown empty
 quads : ℕ → List Cell
@@ -240,17 +190,14 @@ countTrials : List Trial
 countTrials =
     -- 10: no row; one is enough for the form
     ofCounts storedRefutation [] [] [] (leaf []) (refused 10 1)
-    ∷ ofCounts anyRefutation [] [] [] (leaf []) (refused 10 1)
     ∷ ofCounts storedRefutation (4 ∷ []) (4 ∷ []) (unshown ∷ []) (leaf (1 ∷ [])) (refused 19 1)
     -- 10: a cell too few, a cell too many
     ∷ withCells (cited 0 ∷ cited 0 ∷ []) (leaf (1 ∷ 1 ∷ [])) (refused 10 1)
     ∷ withCells (cited 0 ∷ cited 0 ∷ unshown ∷ unshown ∷ []) (leaf (1 ∷ 1 ∷ [])) (refused 10 1)
-    -- 10: a multiplier too few, too many, and the same under a split
-    ∷ withLiftedTree (leaf (1 ∷ [])) (refused 10 1)
-    ∷ withTree (leaf (1 ∷ 1 ∷ 0 ∷ [])) (refused 10 1)
+    -- 10: under a split a multiplier too few, too many, and as many as asked
     ∷ withTree (split 3 0 (leaf (1 ∷ 1 ∷ [])) (leaf (1 ∷ 1 ∷ 0 ∷ []))) (refused 10 1)
     ∷ withTree (split 3 0 (leaf (1 ∷ 1 ∷ 0 ∷ [])) (leaf (1 ∷ 1 ∷ 0 ∷ 0 ∷ []))) (refused 10 1)
-    ∷ withTree (splitAt 3 0) none
+    ∷ withTree (splitAt 0) none
     -- 10: eight splits above a leaf, and nine; lifted, nine are allowed
     ∷ withTree (chain 8 (1 ∷ 1 ∷ [])) none
     ∷ withTree (chain 9 (1 ∷ 1 ∷ [])) (refused 10 1)
@@ -260,43 +207,18 @@ countTrials =
     ∷ withRows (3 ∷ 4 ∷ []) (4 ∷ 3 ∷ []) (refused 17 1)
     ∷ withRows (3 ∷ 4 ∷ []) (4 ∷ 4 ∷ []) (refused 17 1)
     ∷ ofCounts storedRefutation (2 ∷ 3 ∷ 4 ∷ []) (2 ∷ 4 ∷ 3 ∷ []) (quads 1) (leaf (1 ∷ 1 ∷ 1 ∷ [])) (refused 17 1)
-    -- 17: each is in L, and gives a row: "both", its complement and top do not
+    -- 17: each is in L, and gives a row, as a "both" does not (rows-found has the other kinds)
     ∷ withRows (3 ∷ 4 ∷ 7 ∷ []) (3 ∷ 4 ∷ []) none
     ∷ withRows (3 ∷ 7 ∷ []) (3 ∷ 4 ∷ []) (refused 17 1)
-    ∷ withRows (4 ∷ 7 ∷ []) (3 ∷ 4 ∷ []) (refused 17 1)
     ∷ withRows (3 ∷ 6 ∷ []) (3 ∷ 6 ∷ []) (refused 17 1)
-    ∷ withRows (3 ∷ 7 ∷ []) (3 ∷ 7 ∷ []) (refused 17 1)
-    ∷ withRows (0 ∷ 4 ∷ []) (0 ∷ 4 ∷ []) (refused 17 1)
-    -- 19: an upper row's bound is n - 1, so at least 2 and not at least 2 close, at least 2 and not at least 3 do not
-    ∷ withRows (2 ∷ 3 ∷ []) (2 ∷ 3 ∷ []) none
-    ∷ withRows (2 ∷ 5 ∷ []) (2 ∷ 5 ∷ []) (refused 19 1)
-    -- 19: the gap is above zero, and no open cell has more lower than upper multipliers
+    -- 19: the gap is above zero; a split's value is 0 to 1,000, lifted any (counting has the other rules of trees)
     ∷ withTree (leaf (2 ∷ 1 ∷ [])) none
     ∷ withTree (leaf (3 ∷ 1 ∷ [])) (refused 19 1)
-    ∷ withTree (leaf (4 ∷ 1 ∷ [])) (refused 19 1)
-    ∷ withTree (leaf (1 ∷ 2 ∷ [])) (refused 19 1)
-    -- 19: an open cell is split, not one shown empty, not cell 0, none past the last
-    ∷ withTree (splitAt 3 1) none
-    ∷ withTree (splitAt 2 1) (refused 19 1)
-    ∷ withTree (splitAt 0 1) (refused 19 1)
-    ∷ withTree (splitAt 4 1) (refused 19 1)
-    -- 19: at a value of 0 to 1,000; lifted, any
-    ∷ withTree (splitAt 3 1000) none
-    ∷ withTree (splitAt 3 1001) (refused 19 1)
-    ∷ withLiftedTree (splitAt 3 1001) none
-    -- 19: first the half with at most v, then that with at least v + 1
-    ∷ withTree (split 3 1 (leaf (0 ∷ 1 ∷ 1 ∷ [])) (leaf (1 ∷ 0 ∷ 1 ∷ []))) none
-    ∷ withTree (split 3 1 (leaf (1 ∷ 0 ∷ 1 ∷ [])) (leaf (0 ∷ 1 ∷ 1 ∷ []))) (refused 19 1)
-    ∷ withTree (split 3 2 (leaf (0 ∷ 1 ∷ 1 ∷ [])) (leaf (1 ∷ 0 ∷ 1 ∷ []))) none
-    ∷ withTree (split 3 3 (leaf (0 ∷ 1 ∷ 1 ∷ [])) (leaf (1 ∷ 0 ∷ 1 ∷ []))) (refused 19 1)
-    ∷ withTree (split 3 0 (leaf (0 ∷ 1 ∷ 1 ∷ [])) (leaf (1 ∷ 0 ∷ 1 ∷ []))) (refused 19 1)
-    -- 19: both halves close
-    ∷ withTree (split 3 1 (leaf (0 ∷ 1 ∷ 1 ∷ [])) (leaf (0 ∷ 0 ∷ 1 ∷ []))) (refused 19 1)
-    ∷ withTree (split 3 1 (leaf (0 ∷ 0 ∷ 1 ∷ [])) (leaf (1 ∷ 0 ∷ 1 ∷ []))) (refused 19 1)
-    -- 16: a cell cites the record itself, or a later one; a row literal past the table
+    ∷ withTree (splitAt 1000) none
+    ∷ withTree (splitAt 1001) (refused 19 1)
+    ∷ withLiftedTree (splitAt 1001) none
+    -- 16: a cell cites the record itself; a row literal past the table
     ∷ withCells (cited 0 ∷ cited 1 ∷ unshown ∷ []) (leaf (1 ∷ 1 ∷ [])) (refused 16 1)
-    ∷ withCells (cited 2 ∷ cited 0 ∷ unshown ∷ []) (leaf (1 ∷ 1 ∷ [])) (refused 16 1)
-    ∷ withCells (cited 0 ∷ cited 0 ∷ cited 1 ∷ []) (leaf (1 ∷ 1 ∷ [])) (refused 16 1)
     ∷ withRows (3 ∷ 4 ∷ []) (3 ∷ 10 ∷ []) (refused 16 1)
     -- 18: cell 3 is not known to lack top
     ∷ withCells (cited 0 ∷ cited 0 ∷ cited 0 ∷ []) (leaf (1 ∷ 1 ∷ [])) (refused 18 1)
@@ -304,7 +226,6 @@ countTrials =
     ∷ ofCounts storedRefutation (3 ∷ 4 ∷ []) (4 ∷ 3 ∷ []) (cited 0 ∷ cited 0 ∷ cited 1 ∷ []) (leaf (1 ∷ 1 ∷ [])) (refused 16 1)
     ∷ ofCounts storedRefutation (3 ∷ 4 ∷ []) (4 ∷ 3 ∷ []) (cited 0 ∷ cited 0 ∷ cited 0 ∷ []) (leaf (1 ∷ 1 ∷ [])) (refused 17 1)
     ∷ withCells (cited 0 ∷ cited 0 ∷ cited 0 ∷ []) (leaf (1 ∷ 0 ∷ [])) (refused 18 1)
-    ∷ ofCounts storedRefutation (3 ∷ 4 ∷ []) (4 ∷ 3 ∷ []) (cited 0 ∷ cited 0 ∷ unshown ∷ []) (leaf (1 ∷ 0 ∷ [])) (refused 17 1)
     -- 10 over all records comes first, and of these the first
     ∷ stored limited [] (noneHas (2 ∷ []) (clash 10) ∷ noneHas [] (count [] [] (leaf [])) ∷ noneHas [] (count [] [] (leaf [])) ∷ []) (refused 10 1)
     ∷ []
@@ -349,13 +270,13 @@ record KnownTrial : Type 0 where
 
 abbrev knows : List Role → List Entry → List ℕ → List ℕ → ℕ → List ℕ → KnownTrial
 knows roles entries label rows c literals = record {
-  found = knownLabel (tableOf roles entries (lit 0) []) (set label) (lits rows) c;
+  found = knownLabel (tableOf roles entries (lit 0) []) (bits label) (lits rows) c;
   literals = literals;
 }
 
--- names A and B; 6: at least 1 on role 0 has A; 9: none on role 1 has B; 10: every filler of role 1 has not B; 12: A and not B
+-- names A and B; 6: at least 1 on role 0 has A; 9: none on role 1 has B; 10: every filler of role 1 has not B
 counted : List Entry
-counted = top ∷ name ∷ name ∷ atLeast 0 (lit 2) 1 ∷ atLeast 1 (lit 4) 1 ∷ every 1 (lit 5) ∷ both (lit 2) (lit 5) ∷ []
+counted = top ∷ name ∷ name ∷ atLeast 0 (lit 2) 1 ∷ atLeast 1 (lit 4) 1 ∷ every 1 (lit 5) ∷ []
 
 -- name A; 4: every filler of role 1 has A; 6: of role 0; 9: there is a filler of role 0; 11: of role 1
 passing : List Entry
@@ -388,21 +309,16 @@ knownTrials : List KnownTrial
 knownTrials =
     -- literal 0 and the qualifiers of the cell's rows; nothing of a row on a role that is not among the cell's
     knows apart counted (6 ∷ 9 ∷ []) (6 ∷ 9 ∷ []) 1 (0 ∷ 2 ∷ [])
-    ∷ knows apart counted (6 ∷ 9 ∷ []) (6 ∷ 9 ∷ []) 2 (0 ∷ 4 ∷ [])
     ∷ knows apart counted (6 ∷ 9 ∷ []) (6 ∷ 9 ∷ []) 3 (0 ∷ 2 ∷ 4 ∷ [])
     -- the opposite qualifier of the other row, where its role is among the cell's: upward, not downward
     ∷ knows zeroUnder counted (6 ∷ 9 ∷ []) (6 ∷ 9 ∷ []) 1 (0 ∷ 2 ∷ 5 ∷ [])
     ∷ knows zeroUnder counted (6 ∷ 9 ∷ []) (6 ∷ 9 ∷ []) 2 (0 ∷ 4 ∷ [])
-    ∷ knows zeroUnder counted (6 ∷ 9 ∷ []) (6 ∷ 9 ∷ []) 3 (0 ∷ 2 ∷ 4 ∷ [])
-    ∷ knows oneUnder counted (6 ∷ 9 ∷ []) (6 ∷ 9 ∷ []) 1 (0 ∷ 2 ∷ [])
-    ∷ knows oneUnder counted (6 ∷ 9 ∷ []) (6 ∷ 9 ∷ []) 2 (0 ∷ 3 ∷ 4 ∷ [])
     ∷ knows byTwo counted (6 ∷ 9 ∷ []) (6 ∷ 9 ∷ []) 1 (0 ∷ 2 ∷ 5 ∷ [])
     -- the rows are those of the step, not all of the label
     ∷ knows zeroUnder counted (6 ∷ 9 ∷ []) (6 ∷ []) 1 (0 ∷ 2 ∷ [])
     -- "every R l" in the label passes l where R is among the cell's roles, itself or as an ancestor
     ∷ knows apart counted (6 ∷ 10 ∷ []) (6 ∷ []) 1 (0 ∷ 2 ∷ [])
     ∷ knows zeroUnder counted (6 ∷ 10 ∷ []) (6 ∷ []) 1 (0 ∷ 2 ∷ 5 ∷ [])
-    ∷ knows byTwo counted (6 ∷ 10 ∷ []) (6 ∷ []) 1 (0 ∷ 2 ∷ 5 ∷ [])
     ∷ knows oneUnder counted (6 ∷ 10 ∷ []) (6 ∷ []) 1 (0 ∷ 2 ∷ [])
     ∷ knows apart counted (8 ∷ 10 ∷ []) (8 ∷ []) 1 (0 ∷ 4 ∷ 5 ∷ [])
     -- not where it is not in the label, or its complement is
@@ -412,10 +328,8 @@ knownTrials =
     ∷ knows transitiveZero passing (4 ∷ 9 ∷ []) (9 ∷ []) 1 (0 ∷ 2 ∷ 6 ∷ [])
     ∷ knows transitiveZero passing (6 ∷ 9 ∷ []) (9 ∷ []) 1 (0 ∷ 2 ∷ 6 ∷ [])
     ∷ knows transitiveOne passing (4 ∷ 9 ∷ []) (9 ∷ []) 1 (0 ∷ 2 ∷ 4 ∷ [])
-    ∷ knows transitiveOne passing (4 ∷ 11 ∷ []) (11 ∷ []) 1 (0 ∷ 2 ∷ 4 ∷ [])
     -- not where T is not transitive, is not under R, or is not among the cell's roles
     ∷ knows zeroUnder passing (4 ∷ 9 ∷ []) (9 ∷ []) 1 (0 ∷ 2 ∷ [])
-    ∷ knows zeroUnder passing (6 ∷ 9 ∷ []) (9 ∷ []) 1 (0 ∷ 2 ∷ [])
     ∷ knows transitiveApart passing (4 ∷ 9 ∷ []) (9 ∷ []) 1 (0 ∷ [])
     ∷ knows transitiveZero passing (4 ∷ 11 ∷ []) (11 ∷ []) 1 (0 ∷ 2 ∷ [])
     ∷ knows transitiveOne passing (6 ∷ 9 ∷ []) (9 ∷ []) 1 (0 ∷ 2 ∷ [])
@@ -423,24 +337,12 @@ knownTrials =
     ∷ knows apart passing (7 ∷ []) (7 ∷ []) 1 (0 ∷ 3 ∷ [])
     ∷ []
 
-known-found : map (λ t. t .found) knownTrials ≡ map (λ t. set (t .literals)) knownTrials
+known-found : map (λ t. t .found) knownTrials ≡ map (λ t. bits (t .literals)) knownTrials
 unfolding knownTrials counted passing
     rowsOf known cellRole ancestor closure sameEntry literal members labelOf with has setOf anyBelow
 known-found = refl
 
 -- ---- 18, of what is known
--- rule 0: not both A and not B, so no element has {2, 5}; then at least one on role 0 with A, and on role 1 none with B
-abbrev ofRoles : List Role → Option Refusal → Trial
-ofRoles roles = stored (tableOf roles counted (lit 0) (lit 13 ∷ [])) (6 ∷ 9 ∷ []) (
-    noneHas (2 ∷ 3 ∷ []) (clash 2) ∷ noneHas (4 ∷ 5 ∷ []) (clash 4) ∷ noneHas (2 ∷ 5 ∷ 13 ∷ []) (disjunction 6 0 1) ∷ noneHas (2 ∷ 5 ∷ []) (byRule 0 2)
-    ∷ noneHas (6 ∷ 9 ∷ []) (count (6 ∷ 9 ∷ []) (cited 3 ∷ unshown ∷ unshown ∷ []) (leaf (1 ∷ 1 ∷ [])))
-    ∷ [])
-
--- some filler of role 0 that has A, and every one has not A: a record {2, 3} with one more literal
-abbrev ofKnown : List ℕ → Option Refusal → Trial
-ofKnown cite = stored (tableOf apart (top ∷ name ∷ atLeast 0 (lit 2) 1 ∷ every 0 (lit 3) ∷ []) (lit 0) []) (4 ∷ 6 ∷ []) (
-    noneHas cite (clash 2) ∷ noneHas (4 ∷ 6 ∷ []) (count (4 ∷ []) (cited 0 ∷ []) (leaf (1 ∷ []))) ∷ [])
-
 -- some filler has A, rule 0 is not A: after {2, 3} and {2}, each refuted, cell 1 cites one of them
 abbrev ofRuled : ℕ → Option Refusal → Trial
 ofRuled cite = stored (ruled 3) (4 ∷ []) (
@@ -448,17 +350,8 @@ ofRuled cite = stored (ruled 3) (4 ∷ []) (
 
 cellTrials : List Trial
 cellTrials =
-    -- the opposite qualifier: where role 0 is under role 1, where they are apart, where 1 is under 0
-    ofRoles zeroUnder none
-    ∷ ofRoles apart (refused 18 4)
-    ∷ ofRoles oneUnder (refused 18 4)
-    -- literal 0 is known
-    ∷ ofKnown (2 ∷ 3 ∷ []) none
-    ∷ ofKnown (0 ∷ 2 ∷ 3 ∷ []) none
-    ∷ ofKnown (1 ∷ 2 ∷ 3 ∷ []) (refused 18 1)
-    ∷ ofKnown (2 ∷ 3 ∷ 6 ∷ []) (refused 18 1)
-    -- a rule is not: step 4 puts it in
-    ∷ ofRuled 0 (refused 18 2)
+    -- a rule is not known: step 4 puts it in
+    ofRuled 0 (refused 18 2)
     ∷ ofRuled 1 none
     ∷ []
 
@@ -467,7 +360,7 @@ abbrev Agree : List Trial → Type 0
 Agree ts = map (λ t. refutationRefusal (t .limits) (t .given) (t .wanted) (t .list)) ts ≡ map (λ t. t .answer) ts
 
 trials-hold : Agree endTrials × Agree stepTrials × Agree countTrials × Agree manyTrials × Agree cellTrials
-unfolding endTrials stepTrials countTrials manyTrials cellTrials ruled topOnly limited p2 p6-with p6 named many quads chain splitAt counted
+unfolding endTrials stepTrials countTrials manyTrials cellTrials ruled limited p6-with named many quads chain splitAt
     refutationRefusal refuseFrom recordRefusal whenCounting ifCited citeTest stepTest endLabel
     formed depth leafTest treeTest rowsOf bounds known cellRole ancestor closure sameEntry isBoth
     literal members adding labelOf narrow within with has setOf each allBelow anyBelow
@@ -476,14 +369,3 @@ trials-hold = (refl, refl, refl, refl, refl)
 -- a list of no record closes nothing
 no-record : (D : Description) (W : List Literal) → Closes D W [] → ⊥
 no-record D W k = omega (arith, k .some-record)
-
--- ---- so P6's class is empty: no model has an element with literal 8
-limited-accepted : Accepted limited
-unfolding limited descriptionTests allBelow anyBelow narrow entryTest literal ifLeast ifEvery simple ancestor closure has sameEntry
-limited-accepted = accepted↔ limited .0 (omega arith, (omega arith, refl))
-
-p6-empty : (I : Interpretation) → Model limited I → Satisfies limited (lit 8 ∷ []) I → ⊥
-unfolding limited p6-with p6 refutationRefusal refuseFrom recordRefusal whenCounting ifCited citeTest stepTest endLabel
-    formed depth leafTest treeTest rowsOf bounds known cellRole ancestor closure sameEntry isBoth
-    literal members adding labelOf narrow within with has setOf each allBelow anyBelow
-p6-empty = refutation-sound limited limited-accepted (lit 8 ∷ []) p6 (lifted-refutation↔ limited limited-accepted (lit 8 ∷ []) p6 .0 (omega arith, refl))
