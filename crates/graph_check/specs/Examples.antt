@@ -1,4 +1,4 @@
--- Worked examples: bytes of a description and of evidence, and the answer; P1, P3, P5 and P10 of 01, and each test on both sides.
+-- Worked examples: bytes of a description and of evidence, and the answer; each test on both sides. (P1 to P10 stand in demands/Trials.)
 use Prim.Native.Nat.{ℕ, _+_, _/_, _%_}
 use mathlib.Core.Path.{_≡_, refl}
 use mathlib.Core.List.{List, [], _∷_, _++_, map}
@@ -56,14 +56,11 @@ inhabited = none
 abbrev refused : ℕ → ℕ → Option Refusal
 refused n r = some (record { number = n; place = r })
 
--- P1, byte by byte: one role, the entry top, the root top; and its evidence
+-- byte by byte: one role, the entry top, the root top
 abbrev pub first : List ℕ
 first = 0 ∷ 12 ∷ 0 ∷ 3 ∷ 0 ∷ 15 ∷ 0 ∷ 6 ∷ 0 ∷ 21 ∷ 0 ∷ 1 ∷ 0 ∷ 0 ∷ 0 ∷ 0 ∷ 0 ∷ 0 ∷ 0 ∷ 0 ∷ 0 ∷ 0 ∷ []
 
-abbrev alone : List ℕ
-alone = 1 ∷ 1 ∷ 0 ∷ 6 ∷ 0 ∷ 8 ∷ 0 ∷ 0 ∷ 0 ∷ 0 ∷ 0 ∷ 0 ∷ 0 ∷ 1 ∷ []
-
--- P3: "at least 2" and "at least 3" of top, both(2, 5), both(3, 4); the root is 6
+-- the table of P3: "at least 2" and "at least 3" of top, both(2, 5), both(3, 4); the root is 6
 abbrev pub third : List ℕ
 third = parts (0 ∷ 0 ∷ 0 ∷ []) (entry 0 0 0 0 0 ++ entry 4 0 0 0 2 ++ entry 4 0 0 0 3 ++ entry 2 0 2 5 0 ++ entry 2 0 3 4 0) (6 ∷ [])
 
@@ -84,17 +81,14 @@ trial d s t = record { description = d; evidence = s; told = t }
 
 trials : List Trial
 trials =
-    -- P1; P10, without evidence; a closing list is no graph here
-    trial first alone inhabited
-    ∷ trial first [] (refused 9 0)
-    ∷ trial first (2 ∷ 1 ∷ number 6 ++ number 8 ++ node 1 []) (refused 9 0)
+    -- 9: a closing list is no graph here; a byte behind the last record
+    trial first (2 ∷ 1 ∷ number 6 ++ number 8 ++ node 1 []) (refused 9 0)
     ∷ trial first (one (node 1 []) ++ 0 ∷ []) (refused 9 0)
-    -- P3, and P5: one filler is too few, three are too many
-    ∷ trial third (filled 2) inhabited
-    ∷ trial third (filled 1) (refused 15 0)
-    ∷ trial third (filled 3) (refused 15 0)
-    -- two edges to one node: their counts are added
+    -- 15: the counts of two edges to one node are added, and of edges to two nodes; no filler is too few, three are too many
     ∷ trial third (two (node 101 (edge 1 1 1 ++ edge 1 1 1)) (node 1 [])) inhabited
+    ∷ trial third (two (node 101 (edge 0 1 1 ++ edge 1 1 1)) (node 1 [])) inhabited
+    ∷ trial third (two (node 101 []) (node 1 [])) (refused 15 0)
+    ∷ trial third (two (node 101 (edge 0 1 1 ++ edge 1 1 2)) (node 1 [])) (refused 15 0)
     -- 10: a label cut short, part of an edge; of record 1 before 11 of record 0
     ∷ trial first (one (replicate 7 0)) (refused 10 0)
     ∷ trial first (one (node 1 (0 ∷ []))) (refused 10 0)

@@ -58,8 +58,8 @@ chained concepts = parts (role 1 2 ++ role 0 0) concepts (0 ∷ [])
 
 trials : List Trial
 trials =
-    -- P1, byte by byte
-    trial (0 ∷ 12 ∷ 0 ∷ 3 ∷ 0 ∷ 15 ∷ 0 ∷ 6 ∷ 0 ∷ 21 ∷ 0 ∷ 1 ∷ 0 ∷ 0 ∷ 0 ∷ 0 ∷ 0 ∷ 0 ∷ 0 ∷ 0 ∷ 0 ∷ 0 ∷ []) none
+    -- byte by byte: one transitive role, top, the root top
+    trial (0 ∷ 12 ∷ 0 ∷ 3 ∷ 0 ∷ 15 ∷ 0 ∷ 6 ∷ 0 ∷ 21 ∷ 0 ∷ 1 ∷ 1 ∷ 0 ∷ 0 ∷ 0 ∷ 0 ∷ 0 ∷ 0 ∷ 0 ∷ 0 ∷ 0 ∷ []) none
     -- 1: no byte; a byte more; a first part that does not begin at 12; an end of 65,547 that 16 bits would take for 11
     ∷ trial [] (some 1)
     ∷ trial (0 ∷ 12 ∷ 0 ∷ 3 ∷ 0 ∷ 15 ∷ 0 ∷ 6 ∷ 0 ∷ 21 ∷ 0 ∷ 1 ∷ 0 ∷ 0 ∷ 0 ∷ 0 ∷ 0 ∷ 0 ∷ 0 ∷ 0 ∷ 0 ∷ 0 ∷ 0 ∷ []) (some 1)
@@ -98,16 +98,17 @@ trials =
     ∷ entries (top ++ entry 4 0 1 1 1) (some 4)
     -- 4: a literal of the entry itself
     ∷ entries (top ++ entry 3 0 2 0 0) (some 4)
-    -- 5: P9
-    ∷ chained (top ++ entry 4 1 0 0 1) (some 5)
+    -- 5: the transitive role, and the one above it
+    ∷ chained (top ++ entry 4 0 1 0 2) (some 5)
+    ∷ chained (top ++ entry 4 1 1 0 2) (some 5)
     -- 4 before 5, though its entry is later
     ∷ chained (top ++ entry 4 1 0 0 1 ++ entry 4 1 0 0 0) (some 4)
     -- 6: twins, of a kind and of names
     ∷ entries (top ++ entry 2 0 0 1 0 ++ entry 2 0 0 1 0) (some 6)
     ∷ entries (top ++ entry 2 0 0 1 0 ++ entry 2 0 1 0 0) none
     ∷ entries (top ++ name ++ name) none
-    -- 7: P8; and with the other "every" later
-    ∷ chained (top ++ name ++ entry 3 1 2 0 0) (some 7)
+    -- 7: without the other "every", and with it, later
+    ∷ chained (top ++ entry 3 1 1 0 0) (some 7)
     ∷ chained (top ++ name ++ entry 3 1 2 0 0 ++ entry 3 0 2 0 0) none
     -- 8: the root, and a rule
     ∷ parts (role 0 0) top (1 ∷ 1 ∷ []) none

@@ -1,4 +1,4 @@
--- Worked examples: P4, the line of P3, with what the writer answers and leaves; and what the reader answers to it.
+-- Worked examples: what the writer answers and leaves, and what the reader answers to such lines. (P4 itself stands in demands/Trials.)
 use Prim.Native.Nat.{ℕ}
 use mathlib.Core.Path.{_≡_, refl}
 use mathlib.Core.List.{List, [], _∷_, _++_, map}
@@ -29,7 +29,7 @@ use Rattle.graph_check.specs.Examples.{parts, entry, node, edge, one, first, th
 use Rattle.line_reader.specs.Reading.{readRefusal, readAnswer}
 use Rattle.line_writer.specs.Writing.{writeRefused, writeAnswer, writeLength, bufferAfter}
 
--- P4: 4 elements without a name; 0 and 1 each to 2 and 3
+-- the line of P3: 4 elements without a name, 2 and 3 the fillers of 0 and of 1
 abbrev row : List ℕ
 row = 0 ∷ 0 ∷ 0 ∷ 0 ∷ 0 ∷ 1 ∷ 0 ∷ 1 ∷ []
 
@@ -57,9 +57,8 @@ refused d s old n = record { description = d; evidence = s; buffer = old; told =
 
 trials : List Trial
 trials =
-    -- 49 bytes hold it, a longer buffer keeps its other bytes, 48 are too few
-    record { description = third; evidence = filled 2; buffer = replicate 49 165; told = answer WRITTEN none; long = 49; after = fourth }
-    ∷ record { description = third; evidence = filled 2; buffer = replicate 51 165; told = answer WRITTEN none; long = 49; after = fourth ++ 165 ∷ 165 ∷ [] }
+    -- it has 49 bytes: a longer buffer keeps its other bytes, 48 are too few
+    record { description = third; evidence = filled 2; buffer = replicate 51 165; told = answer WRITTEN none; long = 49; after = fourth ++ 165 ∷ 165 ∷ [] }
     ∷ refused third (filled 2) (replicate 48 165) 22
     -- a broken rule comes before a short buffer
     ∷ refused third (filled 3) [] 15

@@ -1,4 +1,4 @@
--- Worked examples of 19 on bytes, on both sides: at most 1 and at least 3, with cells 1 and 2 shown empty and cell 3 open (P6 and P7 of 01).
+-- Worked examples of 19 on bytes, on both sides: at most 1 and at least 3, with cells 1 and 2 shown empty and cell 3 open.
 use Prim.Native.Nat.{ℕ}
 use mathlib.Core.Path.{_≡_, refl}
 use mathlib.Core.Bool.{Bool, true, false}
@@ -14,8 +14,8 @@ use Rattle.list_tree.specs.ListTree.{closingIn}
 abbrev passes : List ℕ → Bool
 passes tree = closingIn (record { side = upper; value = 1 } ∷ record { side = lower; value = 3 } ∷ []) (6 ∷ 2 ∷ 3 ∷ 4 ∷ 0 ∷ 0 ∷ 255 ∷ tree) 2
 
--- P6; P7; a gap of zero; a cell out of balance; a multiplier cut off
-leaves : (passes (0 ∷ 1 ∷ 1 ∷ []) ≡ true) × (passes (0 ∷ 1 ∷ 0 ∷ []) ≡ false) × (passes (0 ∷ 3 ∷ 1 ∷ []) ≡ false) × (passes (0 ∷ 1 ∷ 2 ∷ []) ≡ false)
+-- a gap above zero; below; of zero; a cell out of balance; a multiplier cut off
+leaves : (passes (0 ∷ 2 ∷ 2 ∷ []) ≡ true) × (passes (0 ∷ 2 ∷ 0 ∷ []) ≡ false) × (passes (0 ∷ 3 ∷ 1 ∷ []) ≡ false) × (passes (0 ∷ 1 ∷ 2 ∷ []) ≡ false)
     × (passes (0 ∷ 1 ∷ []) ≡ false)
 unfolding closingIn treeIn nodeIn treeTest leafTest allBelow tabulate has
 leaves = (refl, refl, refl, refl, refl)
