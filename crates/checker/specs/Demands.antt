@@ -68,6 +68,6 @@ module _ (D : Description) (A : Accepted D) where
       × (((G : Graph) × Keeps D (wanted D) G) → ((C : Refutation) × Closes D (wanted D) C) → ⊥)
   one-of-two = exactly-one D A (wanted D) (wanted-in D A)
 
-  -- and wherever a graph keeps the rules, one does that has at most 2^entries nodes
+  -- and if any graph keeps the rules, so does one of at most 2^entries nodes
   pub few-nodes : (G : Graph) → Keeps D (wanted D) G → (H : Graph) × Keeps D (wanted D) H × (length H ≤ 2 ^ D .entries)
   few-nodes G g = small-graph D A (wanted D) (wanted-in D A) G g

@@ -124,7 +124,7 @@ leaf-scaled n open? d z ls ms h = record {
       (omega (arith, scaled-worth d lower ls ms, scaled-worth d upper ls ms, mul-le-mul-left d (gap↔ ls ms .0 (h .above-zero))));
 }
 
--- ---- exactly one A, one B and one C, where each filler has exactly two of them: halves solve it, whole numbers do not
+-- ---- a step that fractions meet and no fillers do: one A, one B and one C in all, and every filler is two of the three
 -- rows 0 to 5: at least 1 A, at most 1 A, and so on; open are A and B (15), A and C (51), B and C (60)
 abc : ℕ → List Bound
 abc b = atLeast b ∷ atMost b ∷ atLeast b ∷ atMost b ∷ atLeast b ∷ atMost b ∷ []

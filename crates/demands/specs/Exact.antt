@@ -1,4 +1,4 @@
--- Demand 2 on bytes: INHABITED and EMPTY are told exactly when the description and the evidence keep the rules, they are true, and after INHABITED the line is written.
+-- Demand 2 on bytes: when INHABITED and EMPTY are told, that they are then true, and that after INHABITED the line is written.
 use Prim.Native.Nat.{ℕ, _*_, _≤_}
 use mathlib.Core.Path.{_≡_, refl}
 use mathlib.Core.Logic.{_↔_}

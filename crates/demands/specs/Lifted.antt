@@ -32,7 +32,7 @@ abbrev pub KeepsRules : Description → Evidence → Type 0
 KeepsRules D (sample G) = Keeps D (wanted D) G
 KeepsRules D (refutation C) = Closes D (wanted D) C
 
--- the limits that 10, 13 and 19 ask of stored evidence: 32 edges, 1,000 for a count; 6 rows, depth 8, 1,000 for a split's value
+-- the limits on the size of stored evidence: of a graph's edges and counts (10, 13); of a refutation's rows, depths and split values (10, 19)
 abbrev pub WithinLimits : Evidence → Type 0
 WithinLimits (sample G) = GraphFits storedGraph G
 WithinLimits (refutation C) = RefutationFits storedRefutation C
@@ -124,11 +124,11 @@ module _ (d : List ℕ) (accepted : AcceptedBytes d) where
   abbrev D : Description
   D = described d
 
-  -- exactly one of two: some graph keeps the rules, or some refutation does
+  -- a graph that keeps the rules exists or a refutation that does, and never both
   pub exactly-one : (((G : Graph) × KeepsRules D (sample G)) ⊎ ((C : Refutation) × KeepsRules D (refutation C)))
       × (((G : Graph) × KeepsRules D (sample G)) → ((C : Refutation) × KeepsRules D (refutation C)) → ⊥)
   exactly-one = let t = Checked.one-of-two D (accepted .accepted) in (elim (t .0) [ inl g ↦ inl (g .0, g .1) | inr c ↦ inr c ], t .1)
 
-  -- and wherever a graph of any size does, one does that has at most 2 to the power of the number of entries as nodes
+  -- and if any graph does, however large, so does one of at most 2^entries nodes
   pub few-nodes : (G : Graph) → KeepsRules D (sample G) → (H : Graph) × KeepsRules D (sample H) × (length H ≤ 2 ^ D .entries)
   few-nodes = Checked.few-nodes D (accepted .accepted)

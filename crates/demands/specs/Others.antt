@@ -1,4 +1,4 @@
--- Two examples of 01 ("Others") in bytes: the four limits of document 001, section 2.2.3, and the one that halves solve and whole numbers do not.
+-- Two examples of 01 ("Others") in bytes: the four limits of document 001, section 2.2.3, and one that fractions solve and no fillers do.
 -- Their descriptions are bytes, their evidence is data, encoded.
 use Prim.Native.Nat.{ℕ, suc}
 use mathlib.Core.Path.{_≡_, refl}
@@ -84,7 +84,7 @@ four-list =
     ∷ noneHas (26 ∷ []) (conjunction 13 14)
     ∷ [])
 
--- ---- exactly one A, one B and one C, where each filler has exactly two of them
+-- ---- one A, one B and one C in all, and every filler is two of the three
 -- names A 2, B 4, C 6; A and B 8, without C 10; A and C 12, without B 14; B and C 16, without A 18; 23 one of 10, 14, 18; 24 every filler has 23;
 -- 26, 30 and 34 at least one A, B and C, 29, 33 and 37 at most one; 38, 40 and 42 exactly one; 48 all, the root
 pairs : List ℕ

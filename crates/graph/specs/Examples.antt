@@ -175,7 +175,7 @@ next-copies : (fillers chained (apart (edge 1 2 2 ∷ [])) 0 ≡ (bits (3 ∷ []
 unfolding copies maxBelow total tabulate setOf pairs direct joins has anyBelow ancestor closure
 next-copies = (refl, refl, refl)
 
--- a chain of three records: a transitive role is closed and its pairs go to its ancestor; the ancestor itself is not closed
+-- a chain of three records: a transitive role is closed, and its ancestor has what that adds but is not closed itself
 abbrev chain : ℕ → Graph
 chain m = node (0 ∷ []) (edge 1 m 1 ∷ []) ∷ node (0 ∷ []) (edge 2 m 1 ∷ []) ∷ node (0 ∷ []) [] ∷ []
 
