@@ -41,7 +41,7 @@ static inline unsigned shq_number(uint32_t answer) { return (unsigned)(answer >>
 static inline unsigned shq_record(uint32_t answer) { return (unsigned)(answer & 255); }
 
 /* The numbers of refusals. The first that applies is answered, in the order of FORMAT 8. The record is that of the evidence that
- * breaks the rule, from 0; it is 0 for 1 to 9 and from 21 on, and the last for 20.
+ * breaks the rule, from 0; of 20 it is the last, and of 1 to 9 and 21 to 23 it is 0.
  *
  *    1  directory      the description is shorter than its head, or its three parts do not fill it one after another
  *    2  part           roles, concepts or question have a length that is no whole number of items, or too few or too many
@@ -49,7 +49,7 @@ static inline unsigned shq_record(uint32_t answer) { return (unsigned)(answer & 
  *    4  entry          a field of a concept entry that its kind does not allow
  *    5  simple         "at least" on a role that is transitive or includes a transitive one
  *    6  twin           a concept entry that stands in the table already
- *    7  missing every  "every R l" without the "every T l" of a transitive T below R
+ *    7  missing every  an "every R l" without the "every T l" of a transitive T below R
  *    8  question       root or rule past the table
  *    9  bundle         the evidence's head or its records' places are off, or a closing list was to be written as a line
  *   10  form           a record of a length, step or shape that there is not
@@ -58,13 +58,13 @@ static inline unsigned shq_record(uint32_t answer) { return (unsigned)(answer & 
  *   13  edge           an edge with a target, a set of roles or a count that there cannot be
  *   14  every          an edge to a target that an "every" does not allow, or no edge that its complement asks for
  *   15  count          an "at least" with too few fillers, or its complement with too many or with undecided ones
- *   16  cite           a closing record names a record that is not earlier, or a literal, entry or rule past the table
+ *   16  cite           a closing record names a record that does not come before it, or a literal, an entry or a rule that there is not
  *   17  step           a step does not follow, or a counting step's rows are not rows of its label, rising
  *   18  cell           a cell is shut by a record that does not fit what is known of its fillers
  *   19  tree           a counting step's tree splits what it may not, or a leaf leaves its limits open
  *   20  end            the last record claims less than that nothing has the root
- *   21  big            the line would have more than 64 elements
- *   22  short          the buffer is shorter than the line
+ *   21  big            the line would have 65 elements or more
+ *   22  short          the buffer does not hold the line
  *   23  line form      a line of a wrong length, of no elements or more than 64, or with a name or role that there is not
  */
 
@@ -83,7 +83,7 @@ uint32_t shq_check(const uint8_t *description, size_t description_length,
                    const uint8_t *evidence, size_t evidence_length);
 
 /* Writes the line of a sample graph: SHQ_WRITTEN, or SHQ_REFUSED with 1 to 15, 21 or 22.
- * It is written exactly if shq_check answers SHQ_INHABITED, it has at most 64 elements and the buffer holds it.
+ * It is written exactly if shq_check answers SHQ_INHABITED, 64 elements are enough and so is the buffer.
  * What it wrote, SHQ_LINE_BYTES(buffer[0]) bytes, shq_read answers with SHQ_HOLDS. */
 uint32_t shq_write(const uint8_t *description, size_t description_length,
                    const uint8_t *evidence, size_t evidence_length,

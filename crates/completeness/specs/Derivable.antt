@@ -1,4 +1,4 @@
--- Derivable labels: every valid list of records can be extended to one with a record whose label lies within the label.
+-- Derivable labels: every valid list of records extends to one that rules the label out, by a record for a part of it.
 -- Appending spoils no earlier record, so lists are threaded and never merged or renumbered. Each step is a rule for derivable labels.
 use Prim.Native.Nat.{ℕ, zero, suc, _+_, _-_, _^_, _≤_, _<_}
 use mathlib.Core.Path.{_≡_, refl, sym, _∙_, ap, subst, fun-ext}

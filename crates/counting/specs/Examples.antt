@@ -126,26 +126,26 @@ leaf-scaled n open? d z ls ms h = record {
 
 -- ---- a step that fractions meet and no fillers do: one A, one B and one C in all, and every filler is two of the three
 -- rows 0 to 5: at least 1 A, at most 1 A, and so on; open are A and B (15), A and C (51), B and C (60)
-abc : ℕ → List Bound
+unfoldable pub abc : ℕ → List Bound
 abc b = atLeast b ∷ atMost b ∷ atLeast b ∷ atMost b ∷ atLeast b ∷ atMost b ∷ []
 
-pairs : ℕ → Bool
-pairs c = eqb c 15 || (eqb c 51 || eqb c 60)
+unfoldable pub abc-open : ℕ → Bool
+abc-open c = eqb c 15 || (eqb c 51 || eqb c 60)
 
 -- no filler has A and B: then one has A and C and one has B and C, which makes two C. One has: then no other has A or B, and none has C.
 unfoldable pub abc-tree : Tree
 abc-tree = split 15 0 (leaf (1 ∷ 0 ∷ 1 ∷ 0 ∷ 0 ∷ 1 ∷ 2 ∷ [])) (leaf (0 ∷ 1 ∷ 0 ∷ 1 ∷ 1 ∷ 0 ∷ 2 ∷ []))
 
-abc-closed : (passes (abc 1) pairs abc-tree ≡ true) × (formed 6 abc-tree ≡ true)
-unfolding abc pairs abc-tree treeTest leafTest allBelow has formed
+abc-closed : (passes (abc 1) abc-open abc-tree ≡ true) × (formed 6 abc-tree ≡ true)
+unfolding abc abc-open abc-tree treeTest leafTest allBelow has formed
 abc-closed = (refl, refl)
 
 -- one filler of each kind solves the doubled bounds
-abc-halves : Solves (abc 2) pairs (λ _. 1)
-unfolding abc pairs sumBelow has
-abc-halves = limits-hold (abc 2) pairs (λ _. 1) .1 (omega arith)
+pub abc-halves : Solves (abc 2) abc-open (λ _. 1)
+unfolding abc abc-open sumBelow has
+abc-halves = limits-hold (abc 2) abc-open (λ _. 1) .1 (omega arith)
 
 -- so no leaf alone closes: it would close the doubled bounds too
-abc-no-leaf : (ms : List ℕ) → Closed (abc 1) pairs (leaf ms) → ⊥
+pub abc-no-leaf : (ms : List ℕ) → Closed (abc 1) abc-open (leaf ms) → ⊥
 unfolding abc scaled
-abc-no-leaf ms h = closed-sound (abc 2) pairs (leaf ms) (leaf-scaled 64 pairs 2 (omega arith) (limits (abc 1)) ms h) (λ _. 1) abc-halves
+abc-no-leaf ms h = closed-sound (abc 2) abc-open (leaf ms) (leaf-scaled 64 abc-open 2 (omega arith) (limits (abc 1)) ms h) (λ _. 1) abc-halves

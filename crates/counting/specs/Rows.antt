@@ -1,4 +1,4 @@
--- Rows over cells: cell c is the fillers that count in row i exactly for the bits i of c (01, "The counting step").
+-- Rows over cells (01, "The counting step"): which rows count a filler is the number of its cell, bit i for row i.
 use Prim.Native.Nat.{ℕ, suc, _+_, _^_, _<_}
 use mathlib.Core.Bool.{Bool}
 use mathlib.Core.List.{List, [], _∷_}

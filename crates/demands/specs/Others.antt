@@ -7,18 +7,27 @@ use mathlib.Core.List.{List, [], _∷_, _++_, map, flatten}
 use lib.Dec.{eqb}
 use Rattle.logic.specs.Lists.{tabulate}
 use Rattle.logic.specs.Sets.{has}
-use Rattle.counting.specs.Trees.{Tree, leaf}
-use Rattle.counting.specs.Examples.{abc-tree}
+use Rattle.counting.specs.Trees.{Tree, leaf, live}
+use Rattle.counting.specs.Examples.{abc, abc-open, abc-tree}
+use Rattle.description.specs.Literals.{literal}
+use Rattle.description.specs.Descriptions.{wanted}
+use Rattle.interpretation.specs.Meaning.{Interpretation}
+use Rattle.interpretation.specs.Models.{Model, Satisfies}
 use Rattle.graph.specs.Graphs.{Graph}
+use Rattle.graph.specs.Line.{line}
 use Rattle.graph.specs.Examples.{edge, node}
-use Rattle.refutation.specs.Records.{Cell, unshown, cited, conjunction, disjunction, Refutation}
+use Rattle.refutation.specs.Cells.{rowsOf, bounds}
+use Rattle.refutation.specs.Records.{Cell, unshown, cited, conjunction, disjunction, Refutation, openAt}
 use Rattle.refutation.specs.Examples.{noneHas, clash, count}
 use Rattle.encoding.specs.Bundles.{bundle}
 use Rattle.encoding.specs.Nodes.{encodeNode}
 use Rattle.encoding.specs.Trees.{encodeTree}
 use Rattle.encoding.specs.Steps.{encodeStep}
 use Rattle.encoding.specs.Encoding.{encodeGraph, encodeRecord, encodeRefutation}
+use Rattle.intake.specs.Intake.{described}
+use Rattle.evidence.specs.Evidence.{graphIn}
 use Rattle.answers.specs.Answers.{REFUSED, INHABITED, EMPTY}
+use Rattle.demands.specs.Exact.{inhabited-true, empty-true}
 use Rattle.demands.specs.Trials.{Trial, checks, Outcome, tells, outcome, told}
 
 -- records 0 to 2 of both refutations: names A 2, B 4 and C 6 with their complements
@@ -187,8 +196,7 @@ others =
     ∷ (refuted (four 4) four-list, tells (told REFUSED 19 12))
     ∷ (sampled (four 3) four-graph, tells (told REFUSED 15 0))
     ∷ (refuted (four 3) four-list, tells (told EMPTY 0 0))
-    -- one split closes the rows; without one the leaf stays open, as half a filler in each open cell meets them
-    -- (counting's abc-no-leaf: as any leaf does)
+    -- one split closes the rows; without one the leaf stays open
     ∷ (refuted pairs (pairs-list abc-tree), tells (told EMPTY 0 0))
     ∷ (refuted pairs (pairs-list (leaf (1 ∷ 0 ∷ 1 ∷ 0 ∷ 0 ∷ 1 ∷ []))), tells (told REFUSED 19 25))
     ∷ []
@@ -196,3 +204,23 @@ others =
 pub others-hold : map (λ t. outcome (t .0)) others ≡ map (λ t. t .1) others
 unfolding others outcome flatten bundle encodeNode encodeRecord encodeStep encodeTree
 others-hold = refl
+
+-- ---- what they say
+-- with at most 3 A some model has the class, so that EMPTY would be false; with at most 2 none has
+pub four-inhabited : let D = described (four 4) in let I = line D (graphIn (encodeGraph four-graph)) in Model D I × Satisfies D (wanted D) I
+unfolding four four-graph outcome flatten bundle encodeNode
+four-inhabited = inhabited-true (four 4) (encodeGraph four-graph) refl
+
+pub four-empty : (I : Interpretation) → Model (described (four 3)) I → Satisfies (described (four 3)) (wanted (described (four 3))) I → ⊥
+unfolding four four-cells four-list outcome flatten bundle encodeRecord encodeStep encodeTree
+four-empty = empty-true (four 3) (encodeRefutation four-list) refl
+
+pub pairs-empty : (I : Interpretation) → Model (described pairs) I → Satisfies (described pairs) (wanted (described pairs)) I → ⊥
+unfolding pairs oneOf pairs-cell pairs-cells pairs-rows pairs-list abc-tree tabulate outcome flatten bundle encodeRecord encodeStep encodeTree
+pairs-empty = empty-true pairs (encodeRefutation (pairs-list abc-tree)) refl
+
+-- the rows and the open cells of the counting step are counting's abc, which half a filler in each open cell meets, and which no leaf closes
+-- (abc-halves, abc-no-leaf)
+pub pairs-step : (bounds (rowsOf (described pairs) (map literal pairs-rows)) ≡ abc 1) × (tabulate 64 (live (openAt pairs-cells)) ≡ tabulate 64 (live abc-open))
+unfolding pairs pairs-rows oneOf pairs-cell pairs-cells abc abc-open tabulate outcome
+pairs-step = (refl, refl)

@@ -38,7 +38,7 @@ pub record Accepted (D : Description) : Type 0 where
   -- 2, in part: there is a role and an entry (the greatest sizes are the byte level's)
   pub some-role : 1 ≤ D .roles
   pub some-entry : 1 ≤ D .entries
-  -- 3: no parent bit past the last role
+  -- 3: every parent is a role of the table
   pub parents-in : (r : ℕ) → r < D .roles → (s : ℕ) → So (included D r s) → s < D .roles
   -- 4
   pub fields : (e : ℕ) → e < D .entries → EntryOk D e (D .entry e)

@@ -38,7 +38,7 @@ tableOf roles entries root rules = record {
   rule = λ i. getD rules i (pos 0);
 }
 
--- the literal with a number
+-- the literal with that number
 abbrev pub lit : ℕ → Literal
 lit l = literal l
 
@@ -68,7 +68,7 @@ chained = ofRoles (transitiveUnder 2 ∷ under 0 ∷ [])
 
 trials : List Trial
 trials =
-    -- 3: a parent bit past the last role is refused; the last role's, and the own, are not
+    -- 3: a parent that is not in the table is refused; the last role, and the role itself, are not
     ofRoles (under 2 ∷ []) (top ∷ []) (some 3)
     ∷ ofRoles (under 0 ∷ under 4 ∷ []) (top ∷ []) (some 3)
     ∷ ofRoles (under 1 ∷ []) (top ∷ []) none

@@ -88,7 +88,7 @@ stands-piece [] d i h = absurd (omega arith)
 stands-piece (w ∷ ws) d zero h = first w (flatten ws) (stands-end [] (w ++ flatten ws))
 stands-piece (w ∷ ws) d (suc i) h = rw (length-append w (flatten (take i ws))) (stands-in (stands-end w (flatten ws)) (stands-piece ws d i (omega arith)))
 
--- each next piece begins at the end of the one before
+-- a piece begins where its predecessor ends
 pub before-next : (ws : List (List ℕ)) (d : List ℕ) (i : ℕ) → i < length ws → before ws (suc i) ≡ before ws i + length (getD ws i d)
 unfolding flatten
 before-next [] d i h = absurd (omega arith)

@@ -116,7 +116,7 @@ pub copies-pos : (G : Graph) → 1 ≤ copies G
 unfolding copies
 copies-pos G = omega arith
 
--- the edges from one node to one node have room
+-- there are copies enough for the edges between any two nodes
 pub room : (G : Graph) (x y : ℕ) → x < length G → y < length G → total (edgesAt G x) (λ E. eqb (E .target) y) ≤ copies G
 unfolding copies
 room G x y hx hy = omega (arith, max-above (length G) (to x) y hy, max-above (length G) (λ x. maxBelow (length G) (to x)) x hx)

@@ -23,7 +23,7 @@ use Rattle.graph.specs.Graphs.{Edge, Graph, labelAt, edgesAt, ofRole, to
 use Rattle.graph.specs.Line.{copies, direct, pairs, lineWith, line}
 use Rattle.graph.specs.Copies.{owner, count-direct, total-at, copies-pos, room}
 
--- ---- the line with K copies of each node, for any K at which the edges from one node to one node have room
+-- ---- the line with K copies of each node, for any K that is enough for the edges between any two
 module _ (D : Description) (A : Accepted D) (W : List Literal) (G : Graph) (g : Keeps D W G) (K : ℕ) (some-copy : 1 ≤ K)
     (fits : (x y : ℕ) → x < length G → y < length G → total (edgesAt G x) (λ E. eqb (E .target) y) ≤ K) where
   abbrev I : Interpretation

@@ -24,7 +24,7 @@ graphHead s = headTest s && eqb (byteAt s 0) 1
 abbrev pub formAt : List ℕ → ℕ → Option ℕ
 formAt s x = unless (nodeFormTest (length (recordAt s x))) 10 none
 
--- 9; 10 over all records, rising; then the rules of the graph that the bytes are
+-- 9; 10 of every record; then the rules of the graph that the bytes are
 unfoldable pub graphTests : Description → List ℕ → Option Refusal
 graphTests D s = refuse 0 (unless (graphHead s) 9 none) (refuseFrom (formAt s) (recordCount s) 0 (graphRefusal storedGraph D (wanted D) (graphIn s)))
 

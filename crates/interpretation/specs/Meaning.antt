@@ -49,7 +49,7 @@ literalIn-cong : (v w : ℕ → ℕ → Bool) (l : Literal) (y : ℕ) → v (ent
 literalIn-cong v w (pos e) y h = h
 literalIn-cong v w (neg e) y h = ap not h
 
--- an entry's meaning depends on earlier entries alone
+-- only earlier entries bear on what an entry means
 meaning-cong : (D : Description) (I : Interpretation) (v w : ℕ → ℕ → Bool) (e x : ℕ) (k : Entry) → EntryOk D e k
     → ((f y : ℕ) → f < e → v f y ≡ w f y) → meaning I v e x k ≡ meaning I w e x k
 unfolding meaning

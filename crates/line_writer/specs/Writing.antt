@@ -1,4 +1,4 @@
--- The line writer (01, "The written line"; FORMAT 7, 8): its refusals, its answer, and every byte of the buffer afterwards.
+-- The line writer (01, "The written line"; FORMAT 7, 8): what it refuses, what it answers, and all bytes of the buffer afterwards.
 use Prim.Native.Nat.{ℕ, _≤_}
 use mathlib.Core.Path.{_≡_, refl}
 use mathlib.Core.Logic.{_↔_}

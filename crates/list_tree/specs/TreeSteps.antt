@@ -38,13 +38,13 @@ pub record PutBehind (way : List Limit) (n : ℕ) (l : Counting.Limit) (next : L
 abbrev pub splitTest : ℕ → (ℕ → Bool) → ℕ → ℕ → Bool
 splitTest k open? c v = ltb c (2 ^ k) && (live open? c && valueFits v)
 
--- the node at a place: a leaf closes, or it is unfit; so does a split fit
+-- the node at a place: a leaf that closes, a split that fits, or unfit
 abbrev pub fit : List ℕ → ℕ → (ℕ → Bool) → ℕ → List Counting.Limit → ℕ → Node → Fit
 fit ds k open? n ls at (Leaf end) = cond (leafTest (2 ^ k) open? ls (bytesAt (λ b. b) ds (at + 1) n)) (Closing end) Unfit
 fit ds k open? n ls at Split = cond (splitTest k open? (byteAt ds (at + 1)) (num2 ds (at + 2))) Splitting Unfit
 fit ds k open? n ls at Off = Unfit
 
--- the paper's number of each case: a split that is off, and a leaf that is open
+-- the paper's number of each case: a split that is off, or a leaf that is open (where no node stands at all, 10 has refused before)
 abbrev pub fitRefusal : Fit → Option ℕ
 fitRefusal (Closing end) = none
 fitRefusal Splitting = none

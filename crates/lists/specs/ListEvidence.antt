@@ -25,7 +25,7 @@ listHead s = headTest s && eqb (byteAt s 0) 2
 abbrev pub listForm : List ℕ → ℕ → Option ℕ
 listForm s x = unless (recordFormTest (recordAt s x)) 10 none
 
--- 9; 10 over all records, rising; then the rules of the refutation that the bytes are, where W is wanted
+-- 9; 10 of every record; then the rules of the refutation that the bytes are, where W is wanted
 unfoldable pub listTests : Description → List Literal → List ℕ → Option Refusal
 listTests D W s = refuse 0 (unless (listHead s) 9 none) (refuseFrom (listForm s) (recordCount s) 0 (refutationRefusal storedRefutation D W (refutationIn s)))
 

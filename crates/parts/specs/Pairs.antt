@@ -29,7 +29,7 @@ endAt s at i = offsetAt s at i + lengthAt s at i
 abbrev pub partAt : List ℕ → ℕ → ℕ → List ℕ
 partAt s at i = take (lengthAt s at i) (drop (offsetAt s at i) s)
 
--- where pair i is to begin: the first at `first`, each next at the end of the one before
+-- where pair i is to begin: the first at `first`, any other where its predecessor ends
 abbrev pub beginAt : List ℕ → ℕ → ℕ → ℕ → ℕ
 beginAt s at first zero = first
 beginAt s at first (suc i) = endAt s at i

@@ -58,7 +58,7 @@ unfoldable pub bounds : List Row → List Bound
 bounds [] = []
 bounds (R ∷ rows) = record { side = R .side; value = R .bound } ∷ bounds rows
 
--- the roles of cell c: the ancestors of its rows' roles
+-- the roles of cell c: those of its rows, and all above these
 unfoldable pub cellRole : Description → List Row → ℕ → ℕ → Bool
 cellRole D rows c r = anyBelow (length rows) (λ i. has c i && ancestor D (rowAt rows i .role) r)
 

@@ -57,7 +57,7 @@ ruled : ℕ → Description
 ruled l = tableOf (under 0 ∷ []) (top ∷ name ∷ atLeast 0 (lit 2) 1 ∷ []) (lit 0) (lit l ∷ [])
 
 -- ---- the end
--- the table of P3 to P7: entries 1 "at least 2", 2 "at least 3", both of top; 3 both(2, 5); 4 both(3, 4)
+-- the table of P3 to P7: fillers, 2 or more (literal 2) and 3 or more (4); the first and not the second (6), the second and not the first (8)
 limited : Description
 limited = tableOf (under 0 ∷ []) (top ∷ atLeast 0 (lit 0) 2 ∷ atLeast 0 (lit 0) 3 ∷ both (lit 2) (lit 5) ∷ both (lit 3) (lit 4) ∷ []) (lit 8) []
 
@@ -103,7 +103,7 @@ ofNext label step = ofSteps (noneHas (2 ∷ 3 ∷ []) (clash 2) ∷ noneHas (4 �
 
 stepTrials : List Trial
 stepTrials =
-    -- step 1: l and its opposite are in L
+    -- step 1: a literal with its opposite
     ofStep (2 ∷ 3 ∷ []) (clash 2) none
     ∷ ofStep (2 ∷ 3 ∷ []) (clash 3) none
     ∷ ofStep (2 ∷ []) (clash 2) (refused 17 0)
@@ -117,7 +117,7 @@ stepTrials =
     -- 0 does not count as in L here
     ∷ ofNext (6 ∷ []) (conjunction 3 2) (refused 17 6)
     ∷ ofNext (0 ∷ 6 ∷ []) (conjunction 3 2) none
-    -- step 3: the complement of a "both" in L; the first cite within L plus the opposite of the first, the second of the second
+    -- step 3: the complement of a "both" in L; a cite for each of its literals, in their order
     ∷ ofNext (2 ∷ 4 ∷ 9 ∷ []) (disjunction 4 0 1) none
     ∷ ofNext (2 ∷ 4 ∷ 9 ∷ []) (disjunction 4 1 0) (refused 17 6)
     ∷ ofNext (2 ∷ 3 ∷ 4 ∷ []) (disjunction 1 0 0) (refused 17 6)
@@ -188,13 +188,15 @@ quads (suc n) = unshown ∷ cited 0 ∷ unshown ∷ unshown ∷ quads n
 
 countTrials : List Trial
 countTrials =
-    -- 10: no row; one is enough for the form
+    -- 10: no row, lifted too; one is enough for the form
     ofCounts storedRefutation [] [] [] (leaf []) (refused 10 1)
+    ∷ ofCounts anyRefutation [] [] [] (leaf []) (refused 10 1)
     ∷ ofCounts storedRefutation (4 ∷ []) (4 ∷ []) (unshown ∷ []) (leaf (1 ∷ [])) (refused 19 1)
     -- 10: a cell too few, a cell too many
     ∷ withCells (cited 0 ∷ cited 0 ∷ []) (leaf (1 ∷ 1 ∷ [])) (refused 10 1)
     ∷ withCells (cited 0 ∷ cited 0 ∷ unshown ∷ unshown ∷ []) (leaf (1 ∷ 1 ∷ [])) (refused 10 1)
-    -- 10: under a split a multiplier too few, too many, and as many as asked
+    -- 10: a multiplier too few, lifted too; under a split one too few, one too many, and as many as asked
+    ∷ withLiftedTree (leaf (1 ∷ [])) (refused 10 1)
     ∷ withTree (split 3 0 (leaf (1 ∷ 1 ∷ [])) (leaf (1 ∷ 1 ∷ 0 ∷ []))) (refused 10 1)
     ∷ withTree (split 3 0 (leaf (1 ∷ 1 ∷ 0 ∷ [])) (leaf (1 ∷ 1 ∷ 0 ∷ 0 ∷ []))) (refused 10 1)
     ∷ withTree (splitAt 0) none

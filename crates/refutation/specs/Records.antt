@@ -48,7 +48,7 @@ abbrev pub WhenCounting : (Counting → Type 0) → Option Counting → Type 0
 WhenCounting P none = Unit {0}
 WhenCounting P (some K) = P K
 
--- a record says that no element of a model has its label; bit l of the label is literal l
+-- a record claims its label of no element of any model; bit l of the label is literal l
 pub record Record : Type 0 where
   pub label : ℕ
   pub step : Step

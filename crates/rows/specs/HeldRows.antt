@@ -82,7 +82,7 @@ rowsHeld rows k = tabulate k (λ i. given (heldAt rows i))
 abbrev pub rowIn : List ℕ → List ℕ → ℕ → Row
 rowIn cs ds i = held (rowFrom (rowOf (describe [] cs []) (literal (byteAt ds (2 + i)))))
 
--- the row of a concept: a count gives its own, and so does a denied "every"
+-- the row that a concept gives: a count its own
 abbrev pub countRow : Concept → RowOf
 countRow Top = Nothing
 countRow Name = Nothing
@@ -90,6 +90,7 @@ countRow (Both a b) = Nothing
 countRow (Every r l) = Nothing
 countRow (AtLeast m) = Is (record { role = m .role; qualifier = m .literal; bound = m .bound; side = m .side })
 
+-- and a denied one: an "every" that of "some"
 abbrev pub someRow : Concept → RowOf
 someRow Top = Nothing
 someRow Name = Nothing

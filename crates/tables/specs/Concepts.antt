@@ -50,7 +50,7 @@ boundIn (Every r l) = 0
 boundIn (AtLeast m) = m .bound
 
 -- ---- the concept of a literal
--- "fewer than the bound", as a count
+-- "fewer than the bound", as a count; a bound of 0, which 4 refuses, stays 0
 abbrev pub fewerOf : Count → Count
 fewerOf m = record { role = m .role; literal = m .literal; bound = m .bound - 1; side = Upper }
 

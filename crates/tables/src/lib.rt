@@ -19,7 +19,7 @@ pub enum Side {
     Upper,
 }
 
-// What a counting kind carries: its role, the literal that it counts, and its bound with the side on which it binds.
+// A bound on the number of fillers of a role that have a literal, and its side: at least so many, or at most.
 pub struct Count {
     pub role: RoleNo,
     pub literal: u8,
@@ -27,6 +27,7 @@ pub struct Count {
     pub side: Side,
 }
 
+// The concept of an entry; an "at least" holds its count, which has the lower side there, and the upper one in a literal's concept.
 pub enum Concept {
     Top,
     Name,
