@@ -10,7 +10,7 @@ ghost use Rattle.tables.specs.Tables.{describe};
 ghost use Rattle.parts.specs.Numbers.{upTo};
 ghost use Rattle.list_form.specs.ListForm.{bytesAt};
 ghost use Rattle.refutation.specs.Cells.{rowOf, rowsOf};
-ghost use Rattle.rows.specs.HeldRows.{noRow, heldAt, heldRow, rowRefusal, there, everyRow, countRow, rowsHeld, rowIn};
+ghost use Rattle.rows.specs.HeldRows.{noRow, heldAt, firstAt, heldRow, rowRefusal, there, everyRow, countRow, rowsHeld, rowIn};
 use nodes::opposite;
 use parts::byte;
 use parts::up_to;
@@ -215,7 +215,7 @@ fn held_row(rows: [Row; 6], k: usize, i: usize) -> Row
 
 // Row `i` of the first `k` rows held, or of 6 if there are more; none past them.
 pub fn row_at(rows: [Row; 6], k: u8, i: u8) -> Row
-    ensures { λ r. ⌜ r ≡ getD (take (upTo 6 k) rows) i noRow ⌝ }
+    ensures { λ r. ⌜ r ≡ firstAt rows k i ⌝ }
 {
     held_row(rows, up_to(6, k as usize) as usize, i as usize)
 }
