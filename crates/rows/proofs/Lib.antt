@@ -1,2 +1,3 @@
-mod Lent
+mod Thin
+mod Fields
 mod Asked

@@ -52,8 +52,8 @@ use Rattle.rows.specs.declared.Row.{Row}
 use Rattle.rows.specs.HeldRows.{noRow}
 use Rattle.rows.proofs.Row as T
 use Rattle.rows.proofs.Row.Laws as T′
-use Rattle.rows.proofs.Lent.{R, spelled}
-use Rattle.rows.proofs.Asked.{Given-by, hears}
+use Rattle.rows.proofs.Thin.{R, spelled, typed}
+use Rattle.rows.proofs.Asked.{Known, hears}
 use Rattle.rows.proofs.lent_row as lent
 use Rattle.rows.proofs.lent_row.Symbol as lent-def
 use Rattle.rows.proofs.lent_row.Met as lent-thm
@@ -105,10 +105,10 @@ module _ {M : Type 1} (𝓤 : URA M) (H : Heap 𝓤) (A : Atoms 𝓤) (W : Given
   abbrev s : ℕ → Val
   s b = sliceVal (b, 0) k
 
-  abbrev to : Lft → ℕ → GName → Given-by 𝓤 H A lent.ended (lent.clauses 𝓤 H A mem run) .Ghost
+  abbrev to : Lft → ℕ → GName → Known 𝓤 H A lent.ended (lent.clauses 𝓤 H A mem run) .Ghost
   to κ b γ = (((κ, tt), (fullShare, tt), tt, (x b γ, (i, tt)), (s b ∷ [], (vint w64 i ∷ [], tt))), tt)
 
-  goes : (κ : Lft) (b : ℕ) (γ : GName) → ent 𝓤 (⋆ 𝓤 H A (‵ (flft κ fullShare) ∷ ‵ (ShrSlice (named 0) κ R .own (x b γ) (s b ∷ [])) ∷ [])) (Given-by 𝓤 H A lent.ended (lent.clauses 𝓤 H A mem run) .pre (to κ b γ))
+  goes : (κ : Lft) (b : ℕ) (γ : GName) → ent 𝓤 (⋆ 𝓤 H A (‵ (flft κ fullShare) ∷ ‵ (ShrSlice (named 0) κ R .own (x b γ) (s b ∷ [])) ∷ [])) (Known 𝓤 H A lent.ended (lent.clauses 𝓤 H A mem run) .pre (to κ b γ))
   goes κ b γ =
       qed W (‵ (flft κ fullShare) ∷ ‵ (ShrSlice (named 0) κ R .own (x b γ) (s b ∷ [])) ∷ []) ∵ nothing ! $ move ! (1 ∷ 0 ∷ []) $ join ! $
       nothing ! $ owned ! usize (Is usize) (uint-makes 𝓤 H A W w64) i _ (refl, i-fits) $ fjoin ! $ move ! (2 ∷ 0 ∷ []) $ fjoin ! $ move ! (1 ∷ 0 ∷ []) $ join ! $ nothing ! $ move ! (1 ∷ 0 ∷ []) $ join ! $ done !
@@ -119,7 +119,7 @@ module _ {M : Type 1} (𝓤 : URA M) (H : Heap 𝓤) (A : Atoms 𝓤) (W : Given
       suffices ! _ (ends-at 𝓤 H A fun.ended stayed (fun.clauses 𝓤 H A mem run) W at-entry u r (tt, (tt, (tt, tt))) (tt, (tt, (tt, tt)))) $ says ! e $
       move ! (3 ∷ []) $ nothing ! $ move ! (1 ∷ 0 ∷ []) $ fjoin ! $ move ! (3 ∷ 0 ∷ []) $ fjoin ! $ move ! (2 ∷ 0 ∷ []) $ fjoin ! $ nothing ! $ done !
 
-  module _ (C : Calls 𝓤 H) (Λ : Loops 𝓤 H) (fm : FmC 𝓤 H (W .laws) C) (known : Triple 𝓤 (C lent-def.name) (Given-by 𝓤 H A lent.ended (lent.clauses 𝓤 H A mem run))) where
+  module _ (C : Calls 𝓤 H) (Λ : Loops 𝓤 H) (fm : FmC 𝓤 H (W .laws) C) (known : Triple 𝓤 (C lent-def.name) (Known 𝓤 H A lent.ended (lent.clauses 𝓤 H A mem run))) where
     walk : Holds (hasTy (tyArray T′.mir 6) v) × WT v → k ≤ 6
         → ent 𝓤 (onEntry 𝓤 H A fun.signature tt tt (xs, (k, (i, tt))) (v ∷ [], (vint w64 k ∷ [], (vint w64 i ∷ [], tt)))) (WpFn 𝓤 H C Λ code.function (v ∷ vint w64 k ∷ vint w64 i ∷ []) Post)
     unfolding partOf
@@ -140,12 +140,12 @@ module _ {M : Type 1} (𝓤 : URA M) (H : Heap 𝓤) (A : Atoms 𝓤) (W : Given
         use1 W (later (some (λ (γ : GName). ‵ (ShrSlice (named 0) (α ∷ []) R .own (x l₄ γ) (sliceVal (l₄, 0) (length (take k xs)) ∷ [])) ⊛ ‵ (flent (α ∷ []) (front 𝓤 H A W xs k l₄)))))
         (lends-shr-slice 𝓤 H A W R (named 0) (α ∷ []) fullShare (take k xs) l₄ 0 (let n = held e in (omega arith, omega arith))) $ await ! tt $ pick ! (λ γ. split ! $
         rewrite ! 0 (λ (m : ℕ). ‵ (ShrSlice (named 0) (α ∷ []) R .own (x l₄ γ) (sliceVal (l₄, 0) m ∷ []))) (held e) refl $
-        move ! (2 ∷ 0 ∷ []) $ use2 W (raw (Given-by 𝓤 H A lent.ended (lent.clauses 𝓤 H A mem run) .pre (to (α ∷ []) l₄ γ))) (goes (α ∷ []) l₄ γ) $
-        calls-at ! fm (Given-by 𝓤 H A lent.ended (lent.clauses 𝓤 H A mem run)) known (to (α ∷ []) l₄ γ) (and-then ! (load ! (from ! (stop !)) (look ! 5 refl)) (and-then ! (load ! (from ! (stop !)) (look ! 10 refl)) (no-more !))) (λ u.
+        move ! (2 ∷ 0 ∷ []) $ use2 W (raw (Known 𝓤 H A lent.ended (lent.clauses 𝓤 H A mem run) .pre (to (α ∷ []) l₄ γ))) (goes (α ∷ []) l₄ γ) $
+        calls-at ! fm (Known 𝓤 H A lent.ended (lent.clauses 𝓤 H A mem run)) known (to (α ∷ []) l₄ γ) (and-then ! (load ! (from ! (stop !)) (look ! 5 refl)) (and-then ! (load ! (from ! (stop !)) (look ! 10 refl)) (no-more !))) (λ u.
         hears ! tt lent.ended (lent.clauses 𝓤 H A mem run) (to (α ∷ []) l₄ γ) u (λ r. r ≡ getD (take k xs) i noRow) (λ r e. id⊢ 𝓤 _) (λ r said.
         -- [the result; the token; the loan; the others; what the parameters own (2); _6; …; _5; …; (_4's right); _3; …; _2; …; _1; …; room for _0; …; true]
         peeks ! R (Is R) (shows 𝓤 H A R) r (u ∷ []) (λ is.
-        land ! (from ! (stop !)) (init ! 17 refl (LL.lawful T.the-type T′.the-laws 𝓤 H A W .typed r _ is .0)) $
+        land ! (from ! (stop !)) (init ! 17 refl (typed 𝓤 H A W r u is)) $
         -- the lifetime is ended, and the slot comes back
         move ! (1 ∷ []) $ use1 W (‵ (flft (α ∷ []) fullShare) ⊛ ‵ ftrue) (id⊢ 𝓤 _) $ split ! $ lft-end ! tt $ move ! (0 ∷ 3 ∷ []) $ lent-back ! tt $ move ! (0 ∷ 3 ∷ []) $
         use2 W (‵ (row 𝓤 H A W xs k l₄ xs)) (glue 𝓤 H A W xs k l₄) $ feqI ! ℕ (length xs) 6 e $ fjoin ! $ use1 W (‵ (partAt Six fullShare xs l₄ 0)) (array-whole 𝓤 H A W R fullShare 6 xs l₄ 0) $
@@ -160,12 +160,12 @@ module _ {M : Type 1} (𝓤 : URA M) (H : Heap 𝓤) (A : Atoms 𝓤) (W : Given
         held e = length-take-le k xs (omega (arith, e, few))
 
 module _ {M : Type 1} (𝓤 : URA M) (H : Heap 𝓤) (A : Atoms 𝓤) (W : Given 𝓤 H A) (mem : Memory → SProp 𝓤) (run : Routine → Fun 𝓤) where
-  held-row-walks : (C : Calls 𝓤 H) (Λ : Loops 𝓤 H) → FmC 𝓤 H (W .laws) C → Triple 𝓤 (C lent-def.name) (Given-by 𝓤 H A lent.ended (lent.clauses 𝓤 H A mem run)) → Walks 𝓤 H A fun.ended stayed (WpFn 𝓤 H C Λ code.function) (fun.clauses 𝓤 H A mem run)
+  held-row-walks : (C : Calls 𝓤 H) (Λ : Loops 𝓤 H) → FmC 𝓤 H (W .laws) C → Triple 𝓤 (C lent-def.name) (Known 𝓤 H A lent.ended (lent.clauses 𝓤 H A mem run)) → Walks 𝓤 H A fun.ended stayed (WpFn 𝓤 H C Λ code.function) (fun.clauses 𝓤 H A mem run)
   held-row-walks C Λ fm known = walked 𝓤 H A fun.ended stayed (fun.clauses 𝓤 H A mem run) (WpFn 𝓤 H C Λ code.function) (λ κs. (array-vals spelled, (uint-vals w64, (uint-vals w64, tt)))) (λ κs. (array-tells R spelled (LL.tells T.the-type T′.the-laws) 6, (uint-tells w64, (uint-tells w64, tt))))
       (λ κs qs bounds a g are. needs 𝓤 _ _
       (walk 𝓤 H A W mem run (a .0) _ (a .1 .0) (a .1 .1 .0) (are .1 .0 .1) (are .1 .1 .0 .1) C Λ fm known (array-typed R (LL.lawful T.the-type T′.the-laws 𝓤 H A W .typed) 6 (a .0) _ (are .0) .0)))
 
-held-row-meets : {M : Type 1} (𝓤 : URA M) (H : Heap 𝓤) (A : Atoms 𝓤) (W : Given 𝓤 H A) (mem : Memory → SProp 𝓤) (run : Routine → Fun 𝓤) (𝓣 : Tables 𝓤 H) → Triple 𝓤 (𝓣 .C lent-def.name) (Given-by 𝓤 H A lent.ended (lent.clauses 𝓤 H A mem run))
+held-row-meets : {M : Type 1} (𝓤 : URA M) (H : Heap 𝓤) (A : Atoms 𝓤) (W : Given 𝓤 H A) (mem : Memory → SProp 𝓤) (run : Routine → Fun 𝓤) (𝓣 : Tables 𝓤 H) → Triple 𝓤 (𝓣 .C lent-def.name) (Known 𝓤 H A lent.ended (lent.clauses 𝓤 H A mem run))
     → Meets 𝓤 H A fun.signature (WpFn 𝓤 H (𝓣 .C) (𝓣 .Λ) code.function) (fun.spec 𝓤 H A mem run)
 held-row-meets 𝓤 H A W mem run 𝓣 known = walk-meets 𝓤 H A fun.ended stayed W (goes-none 𝓤 H A W 0 (λ _. Six) yes (λ κs x f. refl), (goes-none 𝓤 H A W 0 (λ _. usize) yes (λ κs x f. refl), (goes-none 𝓤 H A W 0 (λ _. usize) yes (λ κs x f. refl), tt))) (fun.clauses 𝓤 H A mem run) (WpFn 𝓤 H (𝓣 .C) (𝓣 .Λ) code.function) (WpFn-mono 𝓤 H (W .laws) 𝓣 code.function)
     (held-row-walks 𝓤 H A W mem run (𝓣 .C) (𝓣 .Λ) (fmOf 𝓤 H (W .laws) 𝓣) known)
@@ -176,4 +176,4 @@ held-row-spec 𝓤 H 𝓜 𝓖 𝓡 =
     entered 𝓤 H (tripleOf 𝓤 H (𝓖 .A) fun.signature (fun.spec 𝓤 H (𝓖 .A) (𝓜 .mem) (𝓡 .run)))
     (tables 𝓤 H 𝓜 𝓡 code.env .C) (tables 𝓤 H 𝓜 𝓡 code.env .Λ) #rows·held-row code.function (code.unfolded 𝓤 H 𝓜 𝓡)
     (held-row-meets 𝓤 H (𝓖 .A) (givenOf 𝓤 H 𝓜 𝓖) (𝓜 .mem) (𝓡 .run) (tablesOf 𝓤 H 𝓜 (tables 𝓤 H 𝓜 𝓡 code.env))
-    (cited 𝓤 H (Given-by 𝓤 H (𝓖 .A) lent.ended (lent.clauses 𝓤 H (𝓖 .A) (𝓜 .mem) (𝓡 .run))) 𝓜 𝓡 code.env lent-def.name lent-def.routine code.calls-rows·lent-row (lent-thm.met 𝓤 H 𝓜 𝓖 𝓡)))
+    (cited 𝓤 H (Known 𝓤 H (𝓖 .A) lent.ended (lent.clauses 𝓤 H (𝓖 .A) (𝓜 .mem) (𝓡 .run))) 𝓜 𝓡 code.env lent-def.name lent-def.routine code.calls-rows·lent-row (lent-thm.met 𝓤 H 𝓜 𝓖 𝓡)))
