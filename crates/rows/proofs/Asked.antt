@@ -17,7 +17,7 @@ use prog.Wp.{Heap, Env, Calls, Loops}
 use ghost.Atoms.{Atoms}
 use contract.Monad.{fact}
 use contract.Lifetimes.{Lfts}
-use types.Kit.{Given, Item, Goal, Post, Seq, Soaks, runs, lands, ‵, raw, _⊛_, ⋆, some, later, _$_, _∵_, !}
+use types.Kit.{Given, Item, Goal, Post, Seq, Soaks, runs, lands, ‵, raw, _⊛_, ⋆, some, later, _$_, _∵_, ! }
 use types.Kit.{qed, move, drop, use1, use2, split, join, pick, fjoin, frame, await, done}
 use types.Run.{Opds}
 use sound.WpLaws.{FmC}
