@@ -88,13 +88,15 @@ module _ {M : Type 1} {𝓤 : URA M} {H : Heap 𝓤} {A : Atoms 𝓤} {K : Type 
         → (y : Known 𝓤 H A E c .Ghost) (κ : Lft) (q : Share) (rows : RefT (List Row)) (r : Of-result E (y .0 .0) .Denot) (v : Val)
         → ent 𝓤 (⋆ 𝓤 H A (‵ (flft κ q) ∷ ‵ (lent κ rows) ∷ [])) (Known 𝓤 H A E c .pre y)
         → ent 𝓤 (alive 𝓤 H A (E .signature) (y .0 .0) (y .0 .1)) (A .lft κ q)
-        → ((s : Of-result E (y .0 .0) .Denot) (e : AtExit E (y .0 .0)) → ent 𝓤 (c (y .0 .0) (y .0 .3) .ensures (y .1) s e) (fact 𝓤 (s ≡ r)))
+        → ((s : Of-result E (y .0 .0) .Denot) (e : AtExit E (y .0 .0))
+        → ent 𝓤 (c (y .0 .0) (y .0 .3) .ensures (y .1) s e) (fact 𝓤 (s ≡ r)))
         → ((vs : List Val) → Is (Of-result E (y .0 .0)) r vs → vs ≡ v ∷ [])
         → Opds K W (raw (Known 𝓤 H A E c .pre y) ∷ ‵ (lent κ rows) ∷ Γ) L xs (Known 𝓤 H A E c .args y)
         → (Is (Of-result E (y .0 .0)) r (v ∷ []) → Seq K W (‵ (flft κ q) ∷ ‵ (lent κ rows) ∷ Γ) (lands C Λ L d v rest p))
         → Seq K W (‵ (flft κ q) ∷ ‵ (lent κ rows) ∷ Γ) (runs C Λ L (seq (call f xs d) rest) p)
     thin t fm E c known y κ q rows r v pre back tell one os k =
-        move t (1 ∷ []) $ use1 W (‵ (lent κ rows) ⊛ ‵ (lent κ rows)) (shr-slice-copy 𝓤 H A W (named 0) κ R .twice rows (slice-vals rows)) $ split t $
+        move t (1 ∷ []) $
+        use1 W (‵ (lent κ rows) ⊛ ‵ (lent κ rows)) (shr-slice-copy 𝓤 H A W (named 0) κ R .twice rows (slice-vals rows)) $ split t $
         move t (2 ∷ 0 ∷ []) $ use2 W (raw (Known 𝓤 H A E c .pre y)) pre $ calls-at t fm (Known 𝓤 H A E c) known y os (λ u.
         hears t tt E c y u (λ s. s ≡ r) tell (λ s e.
         facts t (Of-result E (y .0 .0)) (Is (Of-result E (y .0 .0))) (shows 𝓤 H A (Of-result E (y .0 .0))) s (u ∷ []) (λ g.
@@ -102,7 +104,8 @@ module _ {M : Type 1} {𝓤 : URA M} {H : Heap 𝓤} {A : Atoms 𝓤} {K : Type 
 
     pub asks-field : K → FmC 𝓤 H (W .laws) C → (P : Part) → Triple 𝓤 (C f) (Reader 𝓤 H A P)
         → (κ : Lft) (q : Share) (rows : RefT (List Row)) (i : ℕ) → i < 2 ^ 64 → i < length (now rows)
-        → Opds K W (raw (Reader 𝓤 H A P .pre (asked 𝓤 H A P κ q rows i)) ∷ ‵ (lent κ rows) ∷ Γ) L xs (Reader 𝓤 H A P .args (asked 𝓤 H A P κ q rows i))
+        → Opds K W (raw (Reader 𝓤 H A P .pre (asked 𝓤 H A P κ q rows i)) ∷ ‵ (lent κ rows) ∷ Γ) L xs
+        (Reader 𝓤 H A P .args (asked 𝓤 H A P κ q rows i))
         → (Is (P .Of) (P .get (getD (now rows) i noRow)) (part (P .number) (getD (now rows) i noRow) ∷ [])
         → Seq K W (‵ (flft κ q) ∷ ‵ (lent κ rows) ∷ Γ) (lands C Λ L d (part (P .number) (getD (now rows) i noRow)) rest p))
         → Seq K W (‵ (flft κ q) ∷ ‵ (lent κ rows) ∷ Γ) (runs C Λ L (seq (call f xs d) rest) p)

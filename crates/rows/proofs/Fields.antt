@@ -169,21 +169,27 @@ module _ (P : Part) where
           → ent 𝓤 (onEntry 𝓤 H A (ended (P .Of) .signature) (κ, tt) (q, tt) (rows, (i, tt)) (slice-vals rows, (vint w64 i ∷ [], tt)))
           (WpFn 𝓤 H C Λ code (only (slice-vals rows) ∷ vint w64 i ∷ []) (Post (P .Of) 𝓤 H A asks says κ q rows i))
       walk gn gi l =
-          qed W ((‵ (flft κ q) ⊛ ‵ ftrue) ∷ ‵ (owns (ShrSlice (named 0) κ R ∷ usize ∷ []) (rows, (i, tt)) (slice-vals rows, (vint w64 i ∷ [], tt))) ∷ []) ∵
+          qed W ((‵ (flft κ q) ⊛ ‵ ftrue) ∷ ‵ (owns (ShrSlice (named 0) κ R ∷ usize ∷ []) (rows, (i, tt))
+          (slice-vals rows, (vint w64 i ∷ [], tt))) ∷ []) ∵
           enter ! C Λ code (only (slice-vals rows) ∷ vint w64 i ∷ []) _ $
           alloc1 ! (λ l₀. alloc1 ! (λ l₁. alloc1 ! (λ l₂. alloc1 ! (λ l₃. alloc1 ! (λ l₄. alloc0 ! $ params1 ! $
-          pass1 ! (init ! 6 refl (tt, (tt, (record { fits = gn .0 }, tt)))) $ pass1 ! (init ! 4 refl (tt, record { fits = gi })) $ pass0 ! $
+          pass1 ! (init ! 6 refl (tt, (tt, (record { fits = gn .0 }, tt)))) $ pass1 ! (init ! 4 refl (tt, record { fits = gi })) $
+          pass0 ! $
           assigns ! (bin ! (load ! (from ! (stop !)) (look ! 4 refl)) (lit ! tt) (record { fits = scaled }))
           (from ! (stop !)) (init ! 2 refl (tt, record { fits = scaled })) $
-          assigns ! (bin ! (load ! (from ! (fld ! refl (stop !))) (look-in ! 6 (sub ! 0 refl (whole !)))) (load ! (from ! (stop !)) (look ! 2 refl)) tt)
+          assigns ! (bin ! (load ! (from ! (fld ! refl (stop !))) (look-in ! 6 (sub ! 0 refl (whole !))))
+          (load ! (from ! (stop !)) (look ! 2 refl)) tt)
           (from ! (stop !)) (init ! 0 refl (tt, tt)) $
           rewrite ! 0 (λ (p : ℕ). ‵ (fat fullShare tyPtr l₄ 0 (vptr b p))) (sym (place-is 6 o i)) refl $
           move ! (11 ∷ []) $ fsplit ! $ fsplit ! $ move ! (1 ∷ []) $ fsplit ! $ move ! (14 ∷ []) $ split ! $ move ! (3 ∷ 0 ∷ []) $
-          looks-slice ! tt R (Is R) (shows 𝓤 H A R) spelled (LL.tells T.the-type T′.the-laws) (LL.copy T.the-type T′.the-copy 𝓤 H A W) ys b o (λ q′.
+          looks-slice ! tt R (Is R) (shows 𝓤 H A R) spelled (LL.tells T.the-type T′.the-laws)
+          (LL.copy T.the-type T′.the-copy 𝓤 H A W) ys b o (λ q′.
           elem-out ! R (Is R) (shows 𝓤 H A R) spelled (LL.tells T.the-type T′.the-laws) q′ ys i noRow b o l (λ g.
-          -- [rows[i]; what it owns; the others; what shuts; the fractured borrow; true; res; rows' fact; i's; _4; …; _3; …; _2; …; _1; …; _0; …]
+          -- [rows[i]; what it owns; the others; what shuts; the fractured borrow; true; res; rows' fact; i's; _4; …; _3; …; _2; …;
+          -- _1; …; _0; …]
           use1 W (‵ (fat q′ T′.mir b (spot 6 o i) (val elem))) (W .laws .raw-at q′ T′.mir b (spot 6 o i) (val elem)) $
-          assigns ! (of-opd ! (load ! (from ! (hop ! (look ! 9 refl) (fld ! (P .there) (stop !)))) (look-in ! 0 (sub ! (P .number) (P .there) (whole !)))))
+          assigns ! (of-opd ! (load ! (from ! (hop ! (look ! 9 refl) (fld ! (P .there) (stop !))))
+          (look-in ! 0 (sub ! (P .number) (P .there) (whole !)))))
           (from ! (stop !)) (init ! 17 refl (P .typed 𝓤 H A W elem (P .is elem g))) $
           use1 W (‵ (cellAt q′ (R .mir) (spelled elem) b (spot 6 o i))) (W .laws .at-raw q′ T′.mir b (spot 6 o i) (val elem)) $
           elem-back ! R q′ ys i noRow (spelled elem) b o l $ shuts-slice ! tt R q′ ys b o $
@@ -191,7 +197,8 @@ module _ (P : Part) where
           move ! (14 ∷ 15 ∷ []) $ free1 ! $ move ! (12 ∷ 13 ∷ []) $ free1 ! $ move ! (10 ∷ 11 ∷ []) $ free1 ! $
           move ! (8 ∷ 9 ∷ []) $ free1 ! $ move ! (6 ∷ 7 ∷ []) $ free1 ! $ free0 ! $
           move ! (3 ∷ 1 ∷ []) $ fjoin ! $ move ! (3 ∷ 0 ∷ []) $ fjoin ! $ keep ! (1 ∷ 0 ∷ []) $
-          by ! (exits (P .Of) 𝓤 H A asks says κ q rows i W gi (P .makes 𝓤 H A W) (P .get elem) (part (P .number) elem) (P .is elem g) refl))))))))
+          by ! (exits (P .Of) 𝓤 H A asks says κ q rows i W gi (P .makes 𝓤 H A W) (P .get elem) (part (P .number) elem)
+          (P .is elem g) refl))))))))
         where
           scaled : i * 6 < 2 ^ 64
           scaled = omega (arith, gn .1, l)

@@ -73,7 +73,8 @@ module _ (Q : RattleType) where
   abbrev stayed : Stays (ended .signature .params) (ended .kept)
   stayed = (stay-none-slice (0 ∷ []) tt (plain (λ _. R)) yes, (stay-none (λ _. usize) yes, tt))
 
-  module _ {M : Type 1} (𝓤 : URA M) (H : Heap 𝓤) (A : Atoms 𝓤) (ask : List Row → ℕ → SProp 𝓤) (say : List Row → ℕ → Q .Denot → Type 0) where
+  module _ {M : Type 1} (𝓤 : URA M) (H : Heap 𝓤) (A : Atoms 𝓤) (ask : List Row → ℕ → SProp 𝓤)
+      (say : List Row → ℕ → Q .Denot → Type 0) where
     abbrev pub clauses : Clauses 𝓤 ended
     clauses κs a = record {
       ghost = Unit {0};
@@ -93,9 +94,10 @@ module _ (Q : RattleType) where
       unfolding Post
       exits W gi makes r v g e =
           qed W (‵ (flft κ q) ∷ ‵ (lent κ rows) ∷ []) ∵
-          suffices ! _ (ends-at 𝓤 H A ended stayed clauses W (((κ, tt), (q, tt), tt, (rows, (i, tt)), at), tt) v r (tt, (tt, tt)) (tt, (tt, tt))) $
-          says ! e $ nothing ! $ move ! (1 ∷ 0 ∷ []) $ join ! $
-          nothing ! $ owned ! usize (Is usize) (uint-makes 𝓤 H A W w64) i _ (refl, gi) $ fjoin ! $ move ! (2 ∷ 0 ∷ []) $ fjoin ! $ move ! (1 ∷ 0 ∷ []) $
+          suffices ! _ (ends-at 𝓤 H A ended stayed clauses W (((κ, tt), (q, tt), tt, (rows, (i, tt)), at), tt) v r
+          (tt, (tt, tt)) (tt, (tt, tt))) $ says ! e $ nothing ! $ move ! (1 ∷ 0 ∷ []) $ join ! $
+          nothing ! $ owned ! usize (Is usize) (uint-makes 𝓤 H A W w64) i _ (refl, gi) $ fjoin ! $ move ! (2 ∷ 0 ∷ []) $ fjoin ! $
+          move ! (1 ∷ 0 ∷ []) $
           frame ! $ frame ! $ owned ! Q (Is Q) makes r _ g $ done !
 
     pub meets : Given 𝓤 H A → (𝓣 : Tables 𝓤 H) (f : Fn)

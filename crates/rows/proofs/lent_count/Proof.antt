@@ -17,7 +17,8 @@ use contract.Monad.{Fun}
 use contract.Running.{givenOf, tables, tablesOf}
 use types.Kit.{Given, ‵, _⊛_, ⋆, _$_, _∵_, !, qed, by, move, keep, split, join, fsplit, fjoin, suffices, frame, done}
 use types.Part.{whole, sub, look-in}
-use types.Run.{look, init, forget, stop, fld, from, load, of-opd, assigns, returns, enter, alloc1, alloc0, params1, pass1, pass0, free1, free0}
+use types.Run.{look, init, forget, stop, fld, from, load, of-opd, assigns, returns, enter, alloc1}
+use types.Run.{alloc0, params1, pass1, pass0, free1, free0}
 use sound.WpLaws.{WpFn-mono}
 use denote.Exit.{yes}
 use denote.RattleType.{owns}
@@ -53,12 +54,14 @@ module _ {M : Type 1} (𝓤 : URA M) (H : Heap 𝓤) (A : Atoms 𝓤) (W : Given
     exits : length (now rows) < 2 ^ 64 → ent 𝓤 (⋆ 𝓤 H A (‵ (flft κ q) ∷ ‵ (lent κ rows) ∷ [])) (Post (vint w64 (length (now rows))))
     exits g =
         qed W (‵ (flft κ q) ∷ ‵ (lent κ rows) ∷ []) ∵
-        suffices ! _ (ends-at 𝓤 H A fun.ended stayed (fun.clauses 𝓤 H A mem run) W at-entry _ (length (now rows)) (tt, tt) (tt, tt)) $ says ! refl $
+        suffices ! _ (ends-at 𝓤 H A fun.ended stayed (fun.clauses 𝓤 H A mem run) W at-entry _ (length (now rows)) (tt, tt) (tt, tt)) $
+        says ! refl $
         nothing ! $ move ! (1 ∷ 0 ∷ []) $ join ! $ nothing ! $ move ! (2 ∷ 0 ∷ []) $ fjoin ! $ move ! (1 ∷ 0 ∷ []) $
         frame ! $ frame ! $ owned ! usize (Is usize) (uint-makes 𝓤 H A W w64) (length (now rows)) _ (refl, g) $ done !
 
     walk : (C : Calls 𝓤 H) (Λ : Loops 𝓤 H) → Room R (length (now rows))
-        → ent 𝓤 (onEntry 𝓤 H A fun.signature (κ, tt) (q, tt) (rows, tt) (slice-vals rows, tt)) (WpFn 𝓤 H C Λ code.function (slice-vals rows) Post)
+        → ent 𝓤 (onEntry 𝓤 H A fun.signature (κ, tt) (q, tt) (rows, tt) (slice-vals rows, tt))
+        (WpFn 𝓤 H C Λ code.function (slice-vals rows) Post)
     walk C Λ gn =
         qed W ((‵ (flft κ q) ⊛ ‵ ftrue) ∷ ‵ (owns (ShrSlice (named 0) κ R ∷ []) (rows, tt) (slice-vals rows, tt)) ∷ []) ∵
         enter ! C Λ code.function (slice-vals rows) _ $ alloc1 ! (λ l₀. alloc1 ! (λ l₁. alloc0 ! $ params1 ! $

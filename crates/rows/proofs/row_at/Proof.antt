@@ -19,7 +19,8 @@ held-row-requires : tie.Need-held-row-requires
 held-row-requires c κs = search needs
 
 returns : tie.Need-returns
-returns c = let a = c .before .before .args in c .held-row .ensures ∙ ap (λ n. getD (take n (a .rows)) (a .i) noRow) (c .before .up-to .ensures .0)
+returns c = let a = c .before .before .args in
+    c .held-row .ensures ∙ ap (λ n. getD (take n (a .rows)) (a .i) noRow) (c .before .up-to .ensures .0)
 
 pub row-at-spec : {M : Type 1} → statement M
 row-at-spec = tie.close (tie.spec up-to-requires cast-held-row held-row-requires returns)
