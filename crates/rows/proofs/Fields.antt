@@ -3,8 +3,8 @@
 -- the contract's to ask.
 --     Part                       a field of a row: its type, its number, its MIR type and its place, and what a row's relation says of it
 --     role, qualifier, bound, side     the four
---     asks, says, terms          what the function that reads the field asks and says, and both as its contract
---     reads                      that function meets its contract
+--     terms                      the contract of the function that reads the field, as its callers have it
+--     reads                      that function meets a contract that asks for the bound, and claims what is true of the field
 -- Assumes nothing but `Given`.
 use mathlib.Core.Path.{_≡_, refl, sym}
 use Prim.Native.Nat.{ℕ, _<_, _^_, _*_}
@@ -19,7 +19,7 @@ use mir.Syntax.{Ty, Fn, named, w8, w16, w64, tyPtr, tyInt, unsigned, mul, offset
 use mir.Syntax.{assign, seq, return, local, valueLocal}
 use mir.Val.{Val, vint, vptr, hasTy, WT}
 use mir.Fields.{getV}
-use base.Logic.{SProp, ent}
+use base.Logic.{ent, emp, via, monoR}
 use base.Fml.{Lft, Share, ftrue, fat, flft}
 use prog.Memory.{fieldOf}
 use prog.Wp.{Heap, Calls, Loops, WpFn, Tables}
@@ -53,7 +53,7 @@ use Rattle.rows.specs.declared.Row.{Row}
 use Rattle.rows.specs.HeldRows.{noRow}
 use Rattle.rows.proofs.Row as T
 use Rattle.rows.proofs.Row.Laws as T′
-use Rattle.rows.proofs.Thin.{R, val, spelled, lent-mir, ended, clauses, at, Post, exits, meets}
+use Rattle.rows.proofs.Thin.{R, val, spelled, lent-mir, ended, Post, exits, meets}
 
 -- the machine value of a row's field k
 abbrev pub part : ℕ → Row → Val
@@ -143,16 +143,26 @@ module _ (P : Part) where
   }
 
   module _ {M : Type 1} (𝓤 : URA M) (H : Heap 𝓤) (A : Atoms 𝓤) where
-    abbrev pub asks : List Row → ℕ → SProp 𝓤
-    asks ys i = fact 𝓤 (i < length ys)
-
-    abbrev pub says : List Row → ℕ → P .Of .Denot → Type 0
-    says ys i r = r ≡ P .get (getD ys i noRow)
-
+    -- what it asks and says, to its callers
     abbrev pub terms : Clauses 𝓤 (ended (P .Of))
-    terms = clauses (P .Of) 𝓤 H A asks says
+    terms κs a = record {
+      ghost = Unit {0};
+      requires = λ _. fact 𝓤 (a .1 .0 < length (now (a .0)));
+      ensures = λ _ r _. fact 𝓤 (r ≡ P .get (getD (now (a .0)) (a .1 .0) noRow));
+    }
 
-    module _ (W : Given 𝓤 H A) (C : Calls 𝓤 H) (Λ : Loops 𝓤 H) (κ : Lft) (q : Share) (rows : RefT (List Row)) (i : ℕ) where
+    -- a contract that it meets: the index is asked to be below the count, and what is read is as the contract claims
+    module _ (c : Clauses 𝓤 (ended (P .Of))) where
+      abbrev pub Asks : Type 1
+      Asks = (κ : Lft) (rows : RefT (List Row)) (i : ℕ) (g : c (κ, tt) (rows, (i, tt)) .ghost)
+          → ent 𝓤 (c (κ, tt) (rows, (i, tt)) .requires g) (fact 𝓤 (i < length (now rows)))
+
+      abbrev pub Says : Type 1
+      Says = (κ : Lft) (rows : RefT (List Row)) (i : ℕ) (g : c (κ, tt) (rows, (i, tt)) .ghost)
+          → ent 𝓤 (emp 𝓤) (c (κ, tt) (rows, (i, tt)) .ensures g (P .get (getD (now rows) i noRow)) (rows, (i, tt)))
+
+    module _ (c : Clauses 𝓤 (ended (P .Of))) (says : Says c) (W : Given 𝓤 H A) (C : Calls 𝓤 H) (Λ : Loops 𝓤 H)
+        (κ : Lft) (q : Share) (rows : RefT (List Row)) (i : ℕ) (h : c (κ, tt) (rows, (i, tt)) .ghost) where
       abbrev b : ℕ
       b = rows .ptr .0
 
@@ -167,7 +177,7 @@ module _ (P : Part) where
 
       walk : Room R (length ys) → i < 2 ^ 64 → i < length ys
           → ent 𝓤 (onEntry 𝓤 H A (ended (P .Of) .signature) (κ, tt) (q, tt) (rows, (i, tt)) (slice-vals rows, (vint w64 i ∷ [], tt)))
-          (WpFn 𝓤 H C Λ code (only (slice-vals rows) ∷ vint w64 i ∷ []) (Post (P .Of) 𝓤 H A asks says κ q rows i))
+          (WpFn 𝓤 H C Λ code (only (slice-vals rows) ∷ vint w64 i ∷ []) (Post (P .Of) 𝓤 H A c κ q rows i h))
       walk gn gi l =
           qed W ((‵ (flft κ q) ⊛ ‵ ftrue) ∷ ‵ (owns (ShrSlice (named 0) κ R ∷ usize ∷ []) (rows, (i, tt))
           (slice-vals rows, (vint w64 i ∷ [], tt))) ∷ []) ∵
@@ -197,12 +207,14 @@ module _ (P : Part) where
           move ! (14 ∷ 15 ∷ []) $ free1 ! $ move ! (12 ∷ 13 ∷ []) $ free1 ! $ move ! (10 ∷ 11 ∷ []) $ free1 ! $
           move ! (8 ∷ 9 ∷ []) $ free1 ! $ move ! (6 ∷ 7 ∷ []) $ free1 ! $ free0 ! $
           move ! (3 ∷ 1 ∷ []) $ fjoin ! $ move ! (3 ∷ 0 ∷ []) $ fjoin ! $ keep ! (1 ∷ 0 ∷ []) $
-          by ! (exits (P .Of) 𝓤 H A asks says κ q rows i W gi (P .makes 𝓤 H A W) (P .get elem) (part (P .number) elem)
-          (P .is elem g) refl))))))))
+          by ! (exits (P .Of) 𝓤 H A c κ q rows i h W gi (P .makes 𝓤 H A W) (P .get elem) (part (P .number) elem) (P .is elem g)
+          (says κ rows i h)))))))))
         where
           scaled : i * 6 < 2 ^ 64
           scaled = omega (arith, gn .1, l)
 
-    pub reads : Given 𝓤 H A → (𝓣 : Tables 𝓤 H)
-        → Meets 𝓤 H A (ended (P .Of) .signature) (WpFn 𝓤 H (𝓣 .C) (𝓣 .Λ) code) (closing 𝓤 H A (ended (P .Of)) terms)
-    reads W 𝓣 = meets (P .Of) 𝓤 H A asks says W 𝓣 code (λ κ q rows i gn gi. needs 𝓤 _ _ (walk W (𝓣 .C) (𝓣 .Λ) κ q rows i gn gi))
+    pub reads : (c : Clauses 𝓤 (ended (P .Of))) → Asks c → Says c → Given 𝓤 H A → (𝓣 : Tables 𝓤 H)
+        → Meets 𝓤 H A (ended (P .Of) .signature) (WpFn 𝓤 H (𝓣 .C) (𝓣 .Λ) code) (closing 𝓤 H A (ended (P .Of)) c)
+    reads c asks says W 𝓣 = meets (P .Of) 𝓤 H A c W 𝓣 code (λ κ q rows i h gn gi.
+        via 𝓤 _ (monoR 𝓤 (onEntry 𝓤 H A (ended (P .Of) .signature) (κ, tt) (q, tt) (rows, (i, tt)) (slice-vals rows, (vint w64 i ∷ [], tt)))
+        (asks κ rows i h)) (needs 𝓤 _ _ (walk c says W (𝓣 .C) (𝓣 .Λ) κ q rows i h gn gi)))

@@ -169,7 +169,8 @@ module _ {M : Type 1} (𝓤 : URA M) (H : Heap 𝓤) (A : Atoms 𝓤) (mem : Mem
           await ! tt $ pick ! (λ γ. split ! $ rewrite ! 0 (λ (m : ℕ). ‵ (slice (α ∷ []) l₄ γ m)) (held e) refl $
           move ! (2 ∷ 0 ∷ []) $ use2 W (raw (Lent-row .pre (to (α ∷ []) l₄ γ))) (goes (α ∷ []) l₄ γ) $
           calls-at ! fm Lent-row known (to (α ∷ []) l₄ γ)
-          (and-then ! (load ! (from ! (stop !)) (look ! 4 refl)) (and-then ! (load ! (from ! (stop !)) (look ! 9 refl)) (no-more !))) (λ u.
+          (and-then ! (load ! (from ! (stop !)) (look ! 4 refl)) (and-then ! (load ! (from ! (stop !)) (look ! 9 refl)) (no-more !)))
+          (λ u.
           hears ! tt lent.ended (lent.clauses 𝓤 H A mem run) (to (α ∷ []) l₄ γ) u (λ r. r ≡ getD (take k xs) i noRow) (λ r e. id⊢ 𝓤 _)
           (λ r said.
           -- [the result; the token; the loan; the others; what the array owns; _6; …; _5; …; (_4's right); _3; …; _2; …; _1; …; _0; …]
@@ -205,9 +206,9 @@ module _ {M : Type 1} (𝓤 : URA M) (H : Heap 𝓤) (A : Atoms 𝓤) (mem : Mem
       (walked 𝓤 H A fun.ended stayed (fun.clauses 𝓤 H A mem run) (WpFn 𝓤 H (𝓣 .C) (𝓣 .Λ) code.function)
       (λ κs. (array-vals spelled, (uint-vals w64, (uint-vals w64, tt))))
       (λ κs. (array-tells R spelled (LL.tells T.the-type T′.the-laws) 6, (uint-tells w64, (uint-tells w64, tt))))
-      (λ κs qs bounds a g are. needs 𝓤 _ _
-      (walk W (a .0) _ (a .1 .0) (a .1 .1 .0) (are .1 .0 .1) (are .1 .1 .0 .1) (𝓣 .C) (𝓣 .Λ) (fmOf 𝓤 H (W .laws) 𝓣) known
-      (array-typed R (LL.lawful T.the-type T′.the-laws 𝓤 H A W .typed) 6 (a .0) _ (are .0) .0))))
+      (λ κs qs bounds a g are. needs 𝓤 _ _ (λ few.
+      walk W (a .0) _ (a .1 .0) (a .1 .1 .0) (are .1 .0 .1) (are .1 .1 .0 .1) (𝓣 .C) (𝓣 .Λ) (fmOf 𝓤 H (W .laws) 𝓣) known
+      (array-typed R (LL.lawful T.the-type T′.the-laws 𝓤 H A W .typed) 6 (a .0) _ (are .0) .0) few)))
 
 pub held-row-spec : {M : Type 1} → stated.statement M
 unfolding code.routine tablesOf

@@ -16,9 +16,10 @@ use prog.Memory.{Memory}
 use prog.Routine.{Routine}
 use prog.Wp.{Heap, Env, Calls, Loops, WpFn, Tables}
 use ghost.Atoms.{Atoms}
-use contract.Monad.{Fun}
+use contract.Monad.{Fun, factI}
 use contract.Running.{givenOf, tables, tablesOf}
-use types.Kit.{Given, Item, Sq, runs, atRet, ‵, raw, _⊛_, ⋆, _$_, _∵_, !, qed, by, move, drop, use0, split, join, rewrite, fsplit, fjoin, done}
+use types.Kit.{Given, Item, Sq, runs, atRet, ‵, raw, _⊛_, ⋆, _$_, _∵_, !, qed, by, move}
+use types.Kit.{drop, use0, split, join, rewrite, fsplit, fjoin, done}
 use types.Part.{agg}
 use types.Run.{look, init, forget, stop, from, load, of-opd, bin, and-then, no-more, assigns}
 use types.Run.{assigns-last, first, branches, exec, land, land-last}
@@ -70,12 +71,6 @@ abbrev full : {M : Type 1} {𝓤 : URA M} → Ty → ℕ → Val → List (Item 
 full τ l v Γ = ‵ (fat fullShare τ l 0 v) ∷ ‵ (fdies τ l) ∷ Γ
 
 module _ {M : Type 1} (𝓤 : URA M) (H : Heap 𝓤) (A : Atoms 𝓤) (W : Given 𝓤 H A) (mem : Memory → SProp 𝓤) (run : Routine → Fun 𝓤) where
-  abbrev asks : List Row → ℕ → SProp 𝓤
-  asks ys i = emp 𝓤
-
-  abbrev says : List Row → ℕ → Row → Type 0
-  says ys i r = r ≡ getD ys i noRow
-
   -- the functions that it calls, each as its contract says
   record Callees (C : Calls 𝓤 H) : Type 2 where
     frames : FmC 𝓤 H (W .laws) C
@@ -113,22 +108,23 @@ module _ {M : Type 1} (𝓤 : URA M) (H : Heap 𝓤) (A : Atoms 𝓤) (W : Given
       En = (T′.mir, l₀) ∷ (lent-mir, l₁) ∷ (tyInt w64, l₂) ∷ (tyInt w64, l₃) ∷ (tyBool, l₄) ∷ (T′.mir, l₅) ∷ (role .mir, l₆)
           ∷ (tyInt w8, l₇) ∷ (tyInt w16, l₈) ∷ (side .mir, l₉) ∷ []
 
-      ends : (r : Row) → says ys i r → Is R r (spelled r) → (n test : Val)
+      ends : (r : Row) → r ≡ elem → Is R r (spelled r) → (n test : Val)
           → Sq W (‵ (flft κ q) ∷ ‵ (lent κ rows) ∷ bare (side .mir) l₉ (bare (tyInt w16) l₈ (bare (tyInt w8) l₇ (bare (role .mir) l₆
           (full T′.mir l₅ (val r) (full tyBool l₄ test (full (tyInt w64) l₃ n (full (tyInt w64) l₂ (vint w64 i)
           (full lent-mir l₁ (only (slice-vals rows)) (bare T′.mir l₀ []))))))))))
-          (runs C Λ En code.Mir.t-4 (atRet En (Post R 𝓤 H A asks says κ q rows i)))
+          (runs C Λ En code.Mir.t-4 (atRet En (Post R 𝓤 H A (fun.clauses 𝓤 H A mem run) κ q rows i tt)))
       ends r e g n test =
           assigns ! (of-opd ! (load ! (from ! (stop !)) (look ! 10 refl))) (from ! (stop !)) (init ! 20 refl (typed 𝓤 H A W r _ g)) $
           returns ! (look ! 20 refl) $ forget ! 10 refl $ forget ! 12 refl $ forget ! 14 refl $ forget ! 16 refl $ forget ! 18 refl $
           forget ! 20 refl $ move ! (20 ∷ 21 ∷ []) $ free1 ! $ move ! (18 ∷ 19 ∷ []) $ free1 ! $ move ! (16 ∷ 17 ∷ []) $ free1 ! $
           move ! (14 ∷ 15 ∷ []) $ free1 ! $ move ! (12 ∷ 13 ∷ []) $ free1 ! $ move ! (10 ∷ 11 ∷ []) $ free1 ! $ move ! (8 ∷ 9 ∷ []) $
           free1 ! $ move ! (6 ∷ 7 ∷ []) $ free1 ! $ move ! (4 ∷ 5 ∷ []) $ free1 ! $ move ! (2 ∷ 3 ∷ []) $ free1 ! $ free0 ! $
-          by ! (exits R 𝓤 H A asks says κ q rows i W gi (LL.makes T.the-type T′.the-plain 𝓤 H A) r (val r) g e)
+          by ! (exits R 𝓤 H A (fun.clauses 𝓤 H A mem run) κ q rows i tt W gi (LL.makes T.the-type T′.the-plain 𝓤 H A) r (val r) g
+          (factI 𝓤 _ (emp 𝓤) e))
 
     walk : Callees C → Room R (length ys)
         → ent 𝓤 (onEntry 𝓤 H A fun.signature (κ, tt) (q, tt) (rows, (i, tt)) (slice-vals rows, (vint w64 i ∷ [], tt)))
-        (WpFn 𝓤 H C Λ code.function (only (slice-vals rows) ∷ vint w64 i ∷ []) (Post R 𝓤 H A asks says κ q rows i))
+        (WpFn 𝓤 H C Λ code.function (only (slice-vals rows) ∷ vint w64 i ∷ []) (Post R 𝓤 H A (fun.clauses 𝓤 H A mem run) κ q rows i tt))
     walk F gn =
         qed W ((‵ (flft κ q) ⊛ ‵ ftrue) ∷ ‵ (owns (ShrSlice (named 0) κ R ∷ usize ∷ []) (rows, (i, tt))
         (slice-vals rows, (vint w64 i ∷ [], tt))) ∷ []) ∵
@@ -148,16 +144,20 @@ module _ {M : Type 1} (𝓤 : URA M) (H : Heap 𝓤) (A : Atoms 𝓤) (W : Given
         -- the four fields, and a row of them
         (λ on.
         asks-field ! (F .frames) role (F .of-role) κ q rows i gi (ltb→lt i (length ys) on)
-        (and-then ! (load ! (from ! (stop !)) (look ! 18 refl)) (and-then ! (load ! (from ! (stop !)) (look ! 16 refl)) (no-more !))) (λ g₆.
+        (and-then ! (load ! (from ! (stop !)) (look ! 18 refl)) (and-then ! (load ! (from ! (stop !)) (look ! 16 refl)) (no-more !)))
+        (λ g₆.
         land ! (from ! (stop !)) (init ! 8 refl (role .typed 𝓤 H A W elem g₆)) $
         asks-field ! (F .frames) qualifier (F .of-qualifier) κ q rows i gi (ltb→lt i (length ys) on)
-        (and-then ! (load ! (from ! (stop !)) (look ! 18 refl)) (and-then ! (load ! (from ! (stop !)) (look ! 16 refl)) (no-more !))) (λ g₇.
+        (and-then ! (load ! (from ! (stop !)) (look ! 18 refl)) (and-then ! (load ! (from ! (stop !)) (look ! 16 refl)) (no-more !)))
+        (λ g₇.
         land ! (from ! (stop !)) (init ! 6 refl (qualifier .typed 𝓤 H A W elem g₇)) $
         asks-field ! (F .frames) bound (F .of-bound) κ q rows i gi (ltb→lt i (length ys) on)
-        (and-then ! (load ! (from ! (stop !)) (look ! 18 refl)) (and-then ! (load ! (from ! (stop !)) (look ! 16 refl)) (no-more !))) (λ g₈.
+        (and-then ! (load ! (from ! (stop !)) (look ! 18 refl)) (and-then ! (load ! (from ! (stop !)) (look ! 16 refl)) (no-more !)))
+        (λ g₈.
         land ! (from ! (stop !)) (init ! 4 refl (bound .typed 𝓤 H A W elem g₈)) $
         asks-field ! (F .frames) side (F .of-side) κ q rows i gi (ltb→lt i (length ys) on)
-        (and-then ! (load ! (from ! (stop !)) (look ! 18 refl)) (and-then ! (load ! (from ! (stop !)) (look ! 16 refl)) (no-more !))) (λ g₉.
+        (and-then ! (load ! (from ! (stop !)) (look ! 18 refl)) (and-then ! (load ! (from ! (stop !)) (look ! 16 refl)) (no-more !)))
+        (λ g₉.
         land ! (from ! (stop !)) (init ! 2 refl (side .typed 𝓤 H A W elem g₉)) $
         assigns-last ! (agg ! (and-then ! (load ! (from ! (stop !)) (look ! 8 refl))
         (and-then ! (load ! (from ! (stop !)) (look ! 6 refl))
@@ -180,7 +180,8 @@ module _ {M : Type 1} (𝓤 : URA M) (H : Heap 𝓤) (A : Atoms 𝓤) (W : Given
   lent-row-meets : (𝓣 : Tables 𝓤 H) → Callees (𝓣 .C)
       → Meets 𝓤 H A fun.signature (WpFn 𝓤 H (𝓣 .C) (𝓣 .Λ) code.function) (fun.spec 𝓤 H A mem run)
   lent-row-meets 𝓣 F =
-      meets R 𝓤 H A asks says W 𝓣 code.function (λ κ q rows i gn gi. via 𝓤 _ (fst∗ 𝓤 _ (emp 𝓤)) (walk (𝓣 .C) (𝓣 .Λ) κ q rows i gi F gn))
+      meets R 𝓤 H A (fun.clauses 𝓤 H A mem run) W 𝓣 code.function
+      (λ κ q rows i g gn gi. via 𝓤 _ (fst∗ 𝓤 _ (emp 𝓤)) (walk (𝓣 .C) (𝓣 .Λ) κ q rows i gi F gn))
 
 pub lent-row-spec : {M : Type 1} → stated.statement M
 unfolding code.routine tablesOf
