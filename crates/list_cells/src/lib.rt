@@ -141,7 +141,7 @@ fn shown_of(cs: &[u8], a: [u16; 16], x: Label, on: Label, rows: [Row; 6], k: u8)
     let mut out = [none; 6];
     let mut i: u8 = 0;
     while i < k {
-        out[i as usize] = shown_by(cs, a, x, on, row_at(rows, i));
+        out[i as usize] = shown_by(cs, a, x, on, row_at(rows, k, i));
         i += 1;
     }
     out
@@ -163,7 +163,7 @@ fn against_of(rows: [Row; 6], k: u8) -> [Label; 6]
     let mut out = [none; 6];
     let mut i: u8 = 0;
     while i < k {
-        out[i as usize] = denied_by(row_at(rows, i));
+        out[i as usize] = denied_by(row_at(rows, k, i));
         i += 1;
     }
     out
@@ -191,7 +191,7 @@ fn above_of(a: [u16; 16], rows: [Row; 6], k: u8) -> [u16; 6]
     let mut out: [u16; 6] = [0; 6];
     let mut i: u8 = 0;
     while i < k {
-        out[i as usize] = above_by(a, row_at(rows, i));
+        out[i as usize] = above_by(a, row_at(rows, k, i));
         i += 1;
     }
     out
@@ -213,7 +213,7 @@ fn own_of(rows: [Row; 6], k: u8) -> [u16; 6]
     let mut out: [u16; 6] = [0; 6];
     let mut i: u8 = 0;
     while i < k {
-        out[i as usize] = own_by(row_at(rows, i));
+        out[i as usize] = own_by(row_at(rows, k, i));
         i += 1;
     }
     out

@@ -59,7 +59,7 @@ fn row_limits(rows: [Row; 6], k: u8) -> [Limit; 14]
     let mut way = [none; 14];
     let mut i: u8 = 0;
     while i < k {
-        way[i as usize] = limit_of(row_at(rows, i));
+        way[i as usize] = limit_of(row_at(rows, k, i));
         i += 1;
     }
     way

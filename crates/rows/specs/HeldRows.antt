@@ -8,10 +8,11 @@ use native.Mathlib.Omega.{arith}
 use native.Mathlib.Decide.{decLe, decLt}
 use borrow.Author.Tests.{lt-ltb, le-ltb}
 use lib.Dec.{eqb, ltb}
-use lib.ListN.{getD, replicate}
+use lib.ListN.{getD, take, replicate}
+use lib.Seq.{getD-take}
 use Rattle.logic.specs.Lists.{tabulate}
 use Rattle.logic.specs.Refusals.{unless}
-use Rattle.parts.specs.Numbers.{byteAt}
+use Rattle.parts.specs.Numbers.{byteAt, upTo, up-to-all}
 use Rattle.counting.specs.Trees as Counting
 use Rattle.description.specs.Literals.{Literal, pos, neg, literal, code, literal-code}
 use Rattle.description.specs.Descriptions.{Entry, top, name, both, every, atLeast, entryOfFields}
@@ -73,6 +74,10 @@ noRow = record { role = record { 0 = 0 }; qualifier = 0; bound = 0; side = Lower
 -- row i of an array
 unfoldable pub heldAt : List Row → ℕ → Row
 heldAt rows i = cond (ltb i 6) (getD rows i noRow) noRow
+
+-- row i of the first k rows of an array, of at most 6; none past them
+abbrev pub firstAt : List Row → ℕ → ℕ → Row
+firstAt rows k i = getD (take (upTo 6 k) rows) i noRow
 
 -- the first k rows of an array
 abbrev pub rowsHeld : List Row → ℕ → List Theory.Row
@@ -177,9 +182,9 @@ pub at-held : (rows : List Row) (i : ℕ) (x : Row) → i < 6 → x ≡ getD row
 unfolding heldAt
 at-held rows i x h e = rw (lt-ltb i 6 h) e
 
-pub past-held : (rows : List Row) (i : ℕ) (x : Row) → 6 ≤ i → x ≡ noRow → x ≡ heldAt rows i
-unfolding heldAt
-past-held rows i x h e = rw (le-ltb i 6 h) e
+-- each of the first k rows is the array's
+pub first-held : (rows : List Row) (k i : ℕ) (x : Row) → i < k → k ≤ 6 → x ≡ firstAt rows k i → x ≡ heldAt rows i
+first-held rows k i x l few e = at-held rows i x (omega arith) (e ∙ ap (λ n. getD (take n rows) i noRow) (up-to-all 6 k few) ∙ getD-take k rows i noRow l)
 
 -- what is held is given back
 pub given-held : (R : Theory.Row) → given (held R) ≡ R

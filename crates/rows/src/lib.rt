@@ -3,7 +3,7 @@ ghost use mathlib.Core.Path.{_≡_};
 ghost use mathlib.Core.List.{[]};
 ghost use mathlib.Core.Option.{none};
 ghost use Prim.Native.Nat.{ℕ, _<_, _≤_, _^_};
-ghost use lib.ListN.{length, getD};
+ghost use lib.ListN.{length, getD, take};
 ghost use Rattle.logic.specs.Refusals.{unless};
 ghost use Rattle.description.specs.Literals.{literal};
 ghost use Rattle.tables.specs.Concepts.{boundIn};
@@ -11,7 +11,7 @@ ghost use Rattle.tables.specs.Tables.{describe};
 ghost use Rattle.parts.specs.Numbers.{upTo};
 ghost use Rattle.list_form.specs.ListForm.{bytesAt};
 ghost use Rattle.refutation.specs.Cells.{rowOf, rowsOf};
-ghost use Rattle.rows.specs.HeldRows.{noRow, heldAt, heldRow, rowRefusal, there, countRow, someRow, rowsHeld, rowIn};
+ghost use Rattle.rows.specs.HeldRows.{noRow, heldAt, firstAt, heldRow, rowRefusal, there, countRow, someRow, rowsHeld, rowIn};
 use nodes::opposite;
 use parts::byte;
 use parts::up_to;
@@ -139,29 +139,72 @@ pub fn rows_of(cs: &[u8], ds: &[u8], k: u8) -> [Row; 6]
     rows
 }
 
-// Row `i` of rows that are lent.
-fn lent_row(rows: &[Row], i: usize) -> Row
+// How many rows are lent.
+fn lent_count(rows: &[Row]) -> usize
+    ensures { λ r. ⌜ r ≡ length (now (rows .entry)) ⌝ }
+{
+    rows.len()
+}
+
+// The role of row `i` of the rows lent.
+fn lent_role(rows: &[Row], i: usize) -> RoleNo
     requires { ⌜ i < length (now rows) ⌝ }
+    ensures { λ r. ⌜ r ≡ getD (now (rows .entry)) i noRow .role ⌝ }
+{
+    rows[i].role
+}
+
+// The qualifier of row `i` of the rows lent.
+fn lent_qualifier(rows: &[Row], i: usize) -> u8
+    requires { ⌜ i < length (now rows) ⌝ }
+    ensures { λ r. ⌜ r ≡ getD (now (rows .entry)) i noRow .qualifier ⌝ }
+{
+    rows[i].qualifier
+}
+
+// The bound of row `i` of the rows lent.
+fn lent_bound(rows: &[Row], i: usize) -> u16
+    requires { ⌜ i < length (now rows) ⌝ }
+    ensures { λ r. ⌜ r ≡ getD (now (rows .entry)) i noRow .bound ⌝ }
+{
+    rows[i].bound
+}
+
+// The side of row `i` of the rows lent.
+fn lent_side(rows: &[Row], i: usize) -> Side
+    requires { ⌜ i < length (now rows) ⌝ }
+    ensures { λ r. ⌜ r ≡ getD (now (rows .entry)) i noRow .side ⌝ }
+{
+    rows[i].side
+}
+
+// Row `i` of the rows lent, none past them.
+fn lent_row(rows: &[Row], i: usize) -> Row
     ensures { λ r. ⌜ r ≡ getD (now (rows .entry)) i noRow ⌝ }
 {
-    rows[i]
-}
-
-// Row `i` of the rows that an array holds, which is lent.
-fn held_row(rows: [Row; 6], i: usize) -> Row
-    requires { ⌜ i < 6 ⌝ }
-    ensures { λ r. ⌜ r ≡ getD rows i noRow ⌝ }
-{
-    lent_row(&rows, i)
-}
-
-// Row `i` of the rows held; none past the sixth.
-pub fn row_at(rows: [Row; 6], i: u8) -> Row
-    ensures { λ r. ⌜ r ≡ heldAt rows i ⌝ }
-{
-    if i < 6 {
-        held_row(rows, i as usize)
+    if i < lent_count(rows) {
+        Row {
+            role: lent_role(rows, i),
+            qualifier: lent_qualifier(rows, i),
+            bound: lent_bound(rows, i),
+            side: lent_side(rows, i),
+        }
     } else {
         no_row()
     }
+}
+
+// Row `i` of the first `k` rows that an array holds, which are lent.
+fn held_row(rows: [Row; 6], k: usize, i: usize) -> Row
+    requires { ⌜ k ≤ 6 ⌝ }
+    ensures { λ r. ⌜ r ≡ getD (take k rows) i noRow ⌝ }
+{
+    lent_row(&rows[..k], i)
+}
+
+// Row `i` of the first `k` rows held, or of 6 if there are more; none past them.
+pub fn row_at(rows: [Row; 6], k: u8, i: u8) -> Row
+    ensures { λ r. ⌜ r ≡ firstAt rows k i ⌝ }
+{
+    held_row(rows, up_to(6, k as usize) as usize, i as usize)
 }

@@ -1,7 +1,7 @@
 use Prim.Native.Nat.{ℕ, _-_, _<_, _≤_}
 use mathlib.Core.Path.{_≡_, refl, _∙_, ap}
 use Rattle.parts.specs.Filling.{FilledBy, filled-none, filled-more}
-use Rattle.rows.specs.HeldRows.{heldAt}
+use Rattle.rows.specs.HeldRows.{heldAt, first-held}
 use Rattle.list_leaf.specs.Leaf.{noLimit}
 use Rattle.list_tree.specs.TreeSteps.{rowLimit}
 use Rattle.list_tree.specs.HeldLaws.{limits-rows}
@@ -46,7 +46,7 @@ loop-less c = omega arith
 
 loop-again : tie.Need-loop-again Inv-loop μ-loop
 loop-again c = let v = c .before .before .before .loop in
-    (omega arith, v .inv .1, filled-more _ (omega (arith, v .inv .1)) (c .limit-of .ensures ∙ ap rowLimit (c .before .row-at .ensures)) (v .inv .2))
+    (omega arith, v .inv .1, filled-more _ (omega (arith, v .inv .1)) (c .limit-of .ensures ∙ ap rowLimit (first-held _ _ _ _ (c .before .before .loop-test .taken) (v .inv .1) (c .before .row-at .ensures))) (v .inv .2))
 
 returns : tie.Need-returns Inv-loop μ-loop
 returns c = let v = c .before .loop in let a = c .before .before .args in (v .inv .2 .size, limits-rows (a .k) (a .rows) (v .way) (λ i h. v .inv .2 .at i (omega arith)))

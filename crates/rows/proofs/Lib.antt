@@ -1,0 +1,3 @@
+mod Thin
+mod Fields
+mod Asked
