@@ -36,7 +36,7 @@ names = noneHas (2 ∷ 3 ∷ []) (clash 2) ∷ noneHas (4 ∷ 5 ∷ []) (clash 4
 
 -- ---- at most 1 B and C, fewer than `more` A, at least 2 A and B, at least 2 A and C
 -- names A 2, B 4, C 6; 8 B and C; 10 A and B; 12 A and C; the limits 15, 17, 18, 20; 26 all four, the root
-four : ℕ → List ℕ
+pub four : ℕ → List ℕ
 four more =
     0 ∷ 12 ∷ 0 ∷ 3 ∷ 0 ∷ 15 ∷ 0 ∷ 84 ∷ 0 ∷ 99 ∷ 0 ∷ 1
     ∷ 0 ∷ 0 ∷ 0
@@ -57,7 +57,7 @@ four more =
     ∷ 26 ∷ []
 
 -- three fillers: A, B and C; A and B alone; A and C alone
-four-graph : Graph
+pub four-graph : Graph
 four-graph =
     node (0 ∷ 15 ∷ 17 ∷ 18 ∷ 20 ∷ 22 ∷ 24 ∷ 26 ∷ []) (edge 1 1 1 ∷ edge 2 1 1 ∷ edge 3 1 1 ∷ [])
     ∷ node (0 ∷ 2 ∷ 4 ∷ 6 ∷ 8 ∷ 10 ∷ 12 ∷ []) []
@@ -96,7 +96,7 @@ four-list =
 -- ---- one A, one B and one C in all, and every filler is two of the three
 -- names A 2, B 4, C 6; A and B 8, without C 10; A and C 12, without B 14; B and C 16, without A 18; 23 one of 10, 14, 18; 24 every filler has 23;
 -- 26, 30 and 34 at least one A, B and C, 29, 33 and 37 at most one; 38, 40 and 42 exactly one; 48 all, the root
-pairs : List ℕ
+pub pairs : List ℕ
 pairs =
     0 ∷ 12 ∷ 0 ∷ 3 ∷ 0 ∷ 15 ∷ 0 ∷ 150 ∷ 0 ∷ 165 ∷ 0 ∷ 1
     ∷ 0 ∷ 0 ∷ 0
@@ -128,7 +128,7 @@ pairs =
     ∷ 48 ∷ []
 
 -- the rows: at least 1 A, at most 1 A; 30 and 33 the same of B; 34 and 37 of C
-pairs-rows : List ℕ
+pub pairs-rows : List ℕ
 pairs-rows = 26 ∷ 29 ∷ 30 ∷ 33 ∷ 34 ∷ 37 ∷ []
 
 -- a cell in one of the rows i and i + 1 alone
@@ -140,7 +140,7 @@ pairs-cell : ℕ → Cell
 pairs-cell c = cond (oneOf c 0) (cited 0) (cond (oneOf c 2) (cited 1) (cond (oneOf c 4) (cited 2)
     (cond (eqb c 3) (cited 19) (cond (eqb c 12) (cited 21) (cond (eqb c 48) (cited 22) (cond (eqb c 63) (cited 24) unshown))))))
 
-pairs-cells : List Cell
+pub pairs-cells : List Cell
 pairs-cells = tabulate 63 (λ i. pairs-cell (suc i))
 
 pairs-list : Tree → Refutation
