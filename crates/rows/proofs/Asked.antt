@@ -32,7 +32,7 @@ use denote.Steps.{only, nothing, owned, facts, heard}
 use denote.Triple.Statement.{Contract, Triple}
 use denote.Triple.Call.{calls-at}
 use denote.Triple.Clauses.{Clauses, Ended, AtExit, Lasts, atExit, lasts, closing}
-use denote.Triple.Entry.{Res, alive}
+use denote.Triple.Entry.{alive}
 use denote.Triple.Spec.{tripleOf}
 use denote.Triple.Walked.{says}
 use Rattle.rows.specs.declared.Row.{Row}

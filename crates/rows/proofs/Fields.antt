@@ -216,5 +216,6 @@ module _ (P : Part) where
     pub reads : (c : Clauses 𝓤 (ended (P .Of))) → Asks c → Says c → Given 𝓤 H A → (𝓣 : Tables 𝓤 H)
         → Meets 𝓤 H A (ended (P .Of) .signature) (WpFn 𝓤 H (𝓣 .C) (𝓣 .Λ) code) (closing 𝓤 H A (ended (P .Of)) c)
     reads c asks says W 𝓣 = meets (P .Of) 𝓤 H A c W 𝓣 code (λ κ q rows i h gn gi.
-        via 𝓤 _ (monoR 𝓤 (onEntry 𝓤 H A (ended (P .Of) .signature) (κ, tt) (q, tt) (rows, (i, tt)) (slice-vals rows, (vint w64 i ∷ [], tt)))
+        via 𝓤 _ (monoR 𝓤 (onEntry 𝓤 H A (ended (P .Of) .signature) (κ, tt) (q, tt) (rows, (i, tt))
+        (slice-vals rows, (vint w64 i ∷ [], tt)))
         (asks κ rows i h)) (needs 𝓤 _ _ (walk c says W (𝓣 .C) (𝓣 .Λ) κ q rows i h gn gi)))

@@ -184,7 +184,8 @@ at-held rows i x h e = rw (lt-ltb i 6 h) e
 
 -- each of the first k rows is the array's
 pub first-held : (rows : List Row) (k i : ℕ) (x : Row) → i < k → k ≤ 6 → x ≡ firstAt rows k i → x ≡ heldAt rows i
-first-held rows k i x l few e = at-held rows i x (omega arith) (e ∙ ap (λ n. getD (take n rows) i noRow) (up-to-all 6 k few) ∙ getD-take k rows i noRow l)
+first-held rows k i x l few e = at-held rows i x (omega arith)
+    (e ∙ ap (λ n. getD (take n rows) i noRow) (up-to-all 6 k few) ∙ getD-take k rows i noRow l)
 
 -- what is held is given back
 pub given-held : (R : Theory.Row) → given (held R) ≡ R

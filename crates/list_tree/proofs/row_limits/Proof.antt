@@ -45,8 +45,13 @@ loop-less : tie.Need-loop-less Inv-loop μ-loop
 loop-less c = omega arith
 
 loop-again : tie.Need-loop-again Inv-loop μ-loop
-loop-again c = let v = c .before .before .before .loop in
-    (omega arith, v .inv .1, filled-more _ (omega (arith, v .inv .1)) (c .limit-of .ensures ∙ ap rowLimit (first-held _ _ _ _ (c .before .before .loop-test .taken) (v .inv .1) (c .before .row-at .ensures))) (v .inv .2))
+loop-again c = let v = c .before .before .before .loop in (
+  omega arith,
+  v .inv .1,
+  filled-more _ (omega (arith, v .inv .1))
+      (c .limit-of .ensures ∙ ap rowLimit
+      (first-held _ _ _ _ (c .before .before .loop-test .taken) (v .inv .1) (c .before .row-at .ensures))) (v .inv .2),
+)
 
 returns : tie.Need-returns Inv-loop μ-loop
 returns c = let v = c .before .loop in let a = c .before .before .args in (v .inv .2 .size, limits-rows (a .k) (a .rows) (v .way) (λ i h. v .inv .2 .at i (omega arith)))

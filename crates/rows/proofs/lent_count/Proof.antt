@@ -28,7 +28,7 @@ use denote.Ref.{RefT, now}
 use denote.Slice.{ShrSlice, Room, slice-vals, shr-slice-tells}
 use denote.Signature.{plain}
 use denote.Builtin.{usize}
-use denote.Steps.{only, nothing, owned}
+use denote.Steps.{nothing, owned}
 use denote.Triple.Entry.{onEntry}
 use denote.Triple.Spec.{Meets, tripleOf}
 use denote.Triple.Table.{entered}
