@@ -60,7 +60,7 @@ fn most_to(es: &[u8], n: u8) -> usize
     most as usize
 }
 
-// K: the most fillers that one of the `n` records asks of one of them; 1 if none does.
+// K: the most that the counts of the edges from one of the `n` records to another add up to; 1 if there is no edge.
 pub fn most_copies(s: &[u8], n: u8) -> usize
     ensures { λ r. ⌜ (r ≡ copiesIn (now (s .entry)) n) × (r ≤ 32 * 65535) ⌝ }
 {

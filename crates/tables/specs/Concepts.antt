@@ -50,14 +50,14 @@ boundIn (Every r l) = 0
 boundIn (AtLeast m) = m .bound
 
 -- ---- the concept of a literal
--- "fewer than the bound", as a count; a bound of 0, which 4 refuses, stays 0
+-- at most one less than the bound: what denies a lower count; a bound of 0, which 4 refuses, stays 0
 abbrev pub fewerOf : Count → Count
 fewerOf m = record { role = m .role; literal = m .literal; bound = m .bound - 1; side = Upper }
 
 pub none-fewer : (m : Count) → m .bound ≡ 0 → _≡_ {A = Count} (record { role = m .role; literal = m .literal; bound = 0; side = Upper }) (fewerOf m)
 none-fewer m e = rw e refl
 
--- the complement of an entry's concept: of "at least n" it is a count again, of any other the denial
+-- the complement of an entry's concept, in which a count binds from below: of "at least n" it is a count again, of any other the denial
 abbrev pub complementOf : Concept → LiteralConcept
 complementOf Top = Not Top
 complementOf Name = Not Name

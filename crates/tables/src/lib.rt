@@ -27,7 +27,7 @@ pub struct Count {
     pub side: Side,
 }
 
-// The concept of an entry; an "at least" holds its count, which has the lower side there, and the upper one in a literal's concept.
+// The concept of an entry. An "at least" holds its count, with the lower side; with the upper one that case is the complement's, an "at most".
 pub enum Concept {
     Top,
     Name,
@@ -158,7 +158,7 @@ pub fn concept_at(cs: &[u8], e: EntryNo) -> Concept
     }
 }
 
-// Fewer fillers than the bound of `m`, as a count.
+// At most one less than the bound of `m`, which is what denies a lower count; a bound of 0, which 4 refuses, stays 0.
 fn fewer(m: Count) -> Count
     ensures { λ r. ⌜ r ≡ fewerOf m ⌝ }
 {
@@ -180,7 +180,7 @@ fn fewer(m: Count) -> Count
     }
 }
 
-// The complement of an entry's concept.
+// The complement of an entry's concept, in which a count binds from below.
 fn complement(c: Concept) -> LiteralConcept
     ensures { λ r. ⌜ r ≡ complementOf c ⌝ }
 {
