@@ -85,7 +85,7 @@ rows =
     ∷ row anyGraph few [] (node (0 ∷ 10 ∷ []) [] ∷ []) (refused 11 0)
     ∷ row anyGraph few [] (node (2 ∷ []) [] ∷ []) (refused 11 0)
     -- what is wanted is wanted of record 0 alone (record 1 lacks it), before rule 12
-    ∷ row anyGraph trial (lit 2 ∷ lit 5 ∷ []) (pair (0 ∷ 2 ∷ 5 ∷ []) 2) none
+    ∷ row anyGraph trial (pos 1 ∷ neg 2 ∷ []) (pair (0 ∷ 2 ∷ 5 ∷ []) 2) none
     ∷ row anyGraph trial root (node (0 ∷ []) [] ∷ []) (refused 11 0)
     ∷ row anyGraph trial root (node (0 ∷ 8 ∷ []) [] ∷ []) (refused 11 0)
     ∷ row anyGraph trial [] (node (0 ∷ 8 ∷ []) [] ∷ []) (refused 12 0)
