@@ -1,7 +1,8 @@
 /* shq.h: the evidence checker for SHQ line descriptions, for programs in C.
  *
  * A description says what a production line is made of and asks for a class. Evidence says that a line with this class can be
- * built (a sample graph) or that none can (a closing list). docs/FORMAT.md has the bytes of both, examples/firmware.c a use of this.
+ * built (a sample graph) or that none can (a closing list). A claim says of two classes that everything in the first is in the second.
+ * docs/FORMAT.md has the bytes of all this, examples/firmware.c a use of it.
  *
  * Promised, for inputs of every length and every content:
  *   - each function returns, and its answer is the one that docs/FORMAT.md defines; nothing has to be tested beforehand;
@@ -13,7 +14,7 @@
  * Asked of the caller:
  *   - each pointer is valid for the length given with it, and is not NULL, not even with length 0;
  *   - these bytes are changed by nobody else during the call;
- *   - the buffer overlaps neither the description nor the evidence. Those two may overlap.
+ *   - the buffer overlaps neither the description nor the evidence. What is only read may overlap.
  * The library calls memcpy and memset of the C library and nothing else.
  */
 #ifndef SHQ_H
@@ -30,10 +31,11 @@ extern "C" {
 enum shq_words {
     SHQ_REFUSED = 0,   /* a rule is broken: this says nothing of the class, neither yes nor no */
     SHQ_INHABITED = 1, /* shq_check: such a line can be built */
-    SHQ_EMPTY = 2,     /* shq_check: no finite line of any size has the class */
+    SHQ_EMPTY = 2,     /* shq_check: no finite line of any size has the class, and no more than that: it is no yes to a claim */
     SHQ_WRITTEN = 3,   /* shq_write: the line stands in the buffer */
-    SHQ_HOLDS = 4,     /* shq_read: this is a line of the description, and it has the class */
-    SHQ_FAILS = 5      /* shq_read: it is not, or has not */
+    SHQ_HOLDS = 4,     /* shq_read: this is a line of the description, and it has the class; shq_claim: see there */
+    SHQ_FAILS = 5,     /* shq_read: it is not, or has not; shq_claim: see there */
+    SHQ_HOLDS_OF_NOTHING = 6 /* shq_claim: see there */
 };
 
 static inline enum shq_words shq_word(uint32_t answer) { return (enum shq_words)(answer >> 16); }
@@ -41,7 +43,7 @@ static inline unsigned shq_number(uint32_t answer) { return (unsigned)(answer >>
 static inline unsigned shq_record(uint32_t answer) { return (unsigned)(answer & 255); }
 
 /* The numbers of refusals. The first that applies is answered, in the order of FORMAT 8. The record is that of the evidence that
- * breaks the rule, from 0; of 20 it is the last, and of 1 to 9 and 21 to 23 it is 0.
+ * breaks the rule, from 0; of 20 it is the last, and of 1 to 9 and 21 to 24 it is 0.
  *
  *    1  directory      the description is shorter than its head, or its three parts do not fill it one after another
  *    2  part           roles, concepts or question have a length that is no whole number of items, or too few or too many
@@ -62,16 +64,19 @@ static inline unsigned shq_record(uint32_t answer) { return (unsigned)(answer & 
  *   17  step           a step does not follow, or a counting step's rows are not rows of its label, rising
  *   18  cell           a cell is shut by a record that does not fit what is known of its fillers
  *   19  tree           a counting step's tree splits what it may not, or a leaf leaves its limits open
- *   20  end            the last record claims less than that nothing has the root
+ *   20  end            the last record rules out less than is wanted: that nothing has the root, or what a claim wants of a list
  *   21  big            the line would have 65 elements or more
  *   22  short          the buffer does not hold the line
  *   23  line form      a line of a wrong length, of no elements or more than 64, or with a name or role that there is not
+ *   24  claim          C or D past the table, or pieces of evidence whose kinds, in their order, fit no answer
  */
 
-/* The most bytes that each can have without a refusal: of evidence as INHABITED and as EMPTY, and to pass test 9. */
+/* The most bytes that each can have without a refusal: of evidence as INHABITED and as EMPTY, of the list of a claim that HOLDS, and to
+ * pass test 9. */
 #define SHQ_DESCRIPTION_MOST 269
 #define SHQ_GRAPH_MOST 11010
 #define SHQ_LIST_MOST 65549
+#define SHQ_CLAIM_LIST_MOST 69386
 #define SHQ_EVIDENCE_MOST 131070
 #define SHQ_LINE_MOST 8449
 
@@ -81,6 +86,23 @@ static inline unsigned shq_record(uint32_t answer) { return (unsigned)(answer & 
 /* Weighs evidence: SHQ_INHABITED, SHQ_EMPTY, or SHQ_REFUSED with 1 to 20. */
 uint32_t shq_check(const uint8_t *description, size_t description_length,
                    const uint8_t *evidence, size_t evidence_length);
+
+/* Judges the claim "every C is D", where c and d are the numbers of the literals C and D. The root is not used; it is tested all the same.
+ *
+ *   SHQ_HOLDS             no finite line has an element with C and not D, and some line has one with C.
+ *                         Asked for: a list whose last label lies within {0, C, not D}, then a graph whose record 0 has C.
+ *   SHQ_FAILS             some finite line has an element with C and not D.
+ *                         Asked for: a graph whose record 0 has C and not D; no second piece (length 0).
+ *   SHQ_HOLDS_OF_NOTHING  no finite line of any size has an element with C: the claim is true, and says nothing of any line.
+ *                         Asked for: a list whose last label lies within {0, C}; no second piece.
+ *   SHQ_REFUSED           with 1 to 20 or 24, in this order: 1 to 8; 24 of C and D; 9 of the first piece, and of the second if it is not
+ *                         empty; 24 of the pieces' kinds; 10 to 20 of the first piece, then of the second. The record is that of the
+ *                         piece that is refused; the answer does not say which of the two that is.
+ *
+ * shq_write asks for the root: it writes the graph of a claim only if that has the root, too. */
+uint32_t shq_claim(const uint8_t *description, size_t description_length, uint8_t c, uint8_t d,
+                   const uint8_t *first, size_t first_length,
+                   const uint8_t *second, size_t second_length);
 
 /* Writes the line of a sample graph: SHQ_WRITTEN, or SHQ_REFUSED with 1 to 15, 21 or 22.
  * It is written exactly if shq_check answers SHQ_INHABITED, 64 elements are enough and so is the buffer.

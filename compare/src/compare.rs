@@ -1,27 +1,60 @@
 //! Holds the library's answers against the paper's and counts them.
 
 use crate::library;
+use compare::make::spoil_claim::Given;
 use compare::paper;
 
 /// Bytes before and after a buffer that the writer must leave alone.
 const GUARD: usize = 64;
 
+/// What an input is: a question or a line, or a claim with one piece of evidence or two.
+#[derive(Clone, Copy, PartialEq, Eq)]
+pub enum Kind {
+    Plain,
+    OnePiece,
+    TwoPieces,
+}
+
+pub const KINDS: [Kind; 3] = [Kind::Plain, Kind::OnePiece, Kind::TwoPieces];
+
+/// The numbers of refusals, and 0.
+pub const NUMBERS: usize = 25;
+
+/// The answers to inputs of one kind.
+#[derive(Default)]
+pub struct Tally {
+    /// How often each word came.
+    pub words: [usize; library::WORDS.len()],
+    /// How often each refusal number came.
+    pub refusals: [usize; NUMBERS],
+}
+
+impl Tally {
+    pub fn inputs(&self) -> usize {
+        self.words.iter().sum()
+    }
+}
+
 #[derive(Default)]
 pub struct Comparison {
-    pub inputs: usize,
     pub differences: usize,
-    /// How often each word came.
-    pub words: [usize; 6],
-    /// How often each refusal number came.
-    pub refusals: [usize; 24],
+    tallies: [Tally; KINDS.len()],
 }
 
 impl Comparison {
+    pub fn tally(&self, kind: Kind) -> &Tally {
+        &self.tallies[kind as usize]
+    }
+
+    pub fn inputs(&self) -> usize {
+        self.tallies.iter().map(Tally::inputs).sum()
+    }
+
     pub fn check(&mut self, description: &[u8], evidence: &[u8]) {
         let expected = library::code(paper::check(description, evidence));
         let (d, e) = (self.placed(description), self.placed(evidence));
         let found = library::check(d.bytes(), e.bytes());
-        if !self.count(expected, found) {
+        if !self.count(Kind::Plain, expected, found) {
             tell("check", expected, found, &[description, evidence]);
         }
     }
@@ -30,8 +63,26 @@ impl Comparison {
         let expected = library::code(paper::read(description, line));
         let (d, l) = (self.placed(description), self.placed(line));
         let found = library::read(d.bytes(), l.bytes());
-        if !self.count(expected, found) {
+        if !self.count(Kind::Plain, expected, found) {
             tell("read", expected, found, &[description, line]);
+        }
+    }
+
+    pub fn claim(&mut self, given: &Given) {
+        let (c, d) = (given.c, given.d);
+        let slices: [&[u8]; 3] = [&given.description, &given.first, &given.second];
+        let [description, first, second] = slices;
+        let expected = library::code(paper::claim(description, c, d, first, second));
+        let placed = slices.map(|slice| self.placed(slice));
+        let [in_description, in_first, in_second] = placed.each_ref().map(Placed::bytes);
+        let found = library::claim(in_description, c, d, in_first, in_second);
+        let kind = match second.is_empty() {
+            true => Kind::OnePiece,
+            false => Kind::TwoPieces,
+        };
+        if !self.count(kind, expected, found) {
+            println!("C {c}, D {d}:");
+            tell("claim", expected, found, &slices);
         }
     }
 
@@ -45,7 +96,7 @@ impl Comparison {
         let expected = library::code(answer);
         let (d, e) = (self.placed(description), self.placed(evidence));
         let found = library::write(d.bytes(), e.bytes(), &mut theirs[middle]);
-        let same = self.count(expected, found);
+        let same = self.count(Kind::Plain, expected, found);
         if same && ours == theirs {
             return;
         }
@@ -60,7 +111,7 @@ impl Comparison {
 
     /// A copy of a slice at a place that changes from input to input.
     fn placed(&self, slice: &[u8]) -> Placed {
-        let before = self.inputs % 8;
+        let before = self.inputs() % 8;
         let mut zone = vec![0xA5; before + slice.len() + 8];
         zone[before..before + slice.len()].copy_from_slice(slice);
         Placed {
@@ -71,11 +122,11 @@ impl Comparison {
     }
 
     /// Counts an input; false if the answers differ.
-    fn count(&mut self, expected: u32, found: u32) -> bool {
-        self.inputs += 1;
-        self.words[(expected >> 16) as usize] += 1;
+    fn count(&mut self, kind: Kind, expected: u32, found: u32) -> bool {
+        let tally = &mut self.tallies[kind as usize];
+        tally.words[(expected >> 16) as usize] += 1;
         if expected < 65536 {
-            self.refusals[(expected >> 8) as usize] += 1;
+            tally.refusals[(expected >> 8) as usize] += 1;
         }
         let same = expected == found;
         self.differences += !same as usize;

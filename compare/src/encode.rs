@@ -1,7 +1,7 @@
 //! Bytes of descriptions and evidence; also of such as no test would accept.
 
 use crate::paper::description::{Concept, Description};
-use crate::paper::evidence::{Claim, Counting, Node, Step, Tree};
+use crate::paper::evidence::{Closing, Counting, Node, Step, Tree};
 
 /// Pairs (offset, length) from byte `at` on, then the parts. What is too long for a pair
 /// is cut to 16 bits, as a damaged input may be.
@@ -64,8 +64,8 @@ pub fn graph(nodes: &[Node]) -> Vec<u8> {
     bundle(1, &records)
 }
 
-pub fn list(claims: &[Claim]) -> Vec<u8> {
-    let records: Vec<Vec<u8>> = claims.iter().map(claim).collect();
+pub fn list(closings: &[Closing]) -> Vec<u8> {
+    let records: Vec<Vec<u8>> = closings.iter().map(closing).collect();
     bundle(2, &records)
 }
 
@@ -79,9 +79,9 @@ pub fn node(node: &Node) -> Vec<u8> {
     bytes
 }
 
-pub fn claim(claim: &Claim) -> Vec<u8> {
-    let mut bytes = claim.label.0.to_be_bytes().to_vec();
-    match &claim.step {
+pub fn closing(closing: &Closing) -> Vec<u8> {
+    let mut bytes = closing.label.0.to_be_bytes().to_vec();
+    match &closing.step {
         Step::Clash(literal) => bytes.extend([1, *literal]),
         Step::Both { entry, cite } => bytes.extend([2, *entry, *cite]),
         Step::NotBoth { entry, cites } => bytes.extend([3, *entry, cites[0], cites[1]]),

@@ -23,6 +23,16 @@ extern "C" {
         line: *const u8,
         line_length: usize,
     ) -> u32;
+    fn shq_claim(
+        description: *const u8,
+        description_length: usize,
+        c: u8,
+        d: u8,
+        first: *const u8,
+        first_length: usize,
+        second: *const u8,
+        second_length: usize,
+    ) -> u32;
 }
 
 pub fn check(description: &[u8], evidence: &[u8]) -> u32 {
@@ -63,7 +73,31 @@ pub fn read(description: &[u8], line: &[u8]) -> u32 {
     }
 }
 
-pub const WORDS: [&str; 6] = ["REFUSED", "INHABITED", "EMPTY", "WRITTEN", "HOLDS", "FAILS"];
+pub fn claim(description: &[u8], c: u8, d: u8, first: &[u8], second: &[u8]) -> u32 {
+    // SAFETY: the three slices are lent for the call and only read.
+    unsafe {
+        shq_claim(
+            description.as_ptr(),
+            description.len(),
+            c,
+            d,
+            first.as_ptr(),
+            first.len(),
+            second.as_ptr(),
+            second.len(),
+        )
+    }
+}
+
+pub const WORDS: [&str; 7] = [
+    "REFUSED",
+    "INHABITED",
+    "EMPTY",
+    "WRITTEN",
+    "HOLDS",
+    "FAILS",
+    "HOLDS OF NOTHING",
+];
 
 /// An answer of the paper in the interface's form: word · 65536 + number · 256 + record.
 pub fn code(answer: Answer) -> u32 {
@@ -74,6 +108,7 @@ pub fn code(answer: Answer) -> u32 {
         Answer::Written => 3 * 65536,
         Answer::Holds => 4 * 65536,
         Answer::Fails => 5 * 65536,
+        Answer::HoldsOfNothing => 6 * 65536,
     }
 }
 

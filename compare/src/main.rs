@@ -1,24 +1,23 @@
-//! Compares the checker's library with the paper's own implementation.
+//! Compares the checker's library with the papers' own implementation.
 //!
-//! Arguments: a seed (1 if not given), then a number of inputs (200,000 if not given).
+//! Arguments: a seed (1 if not given), then a number of inputs (200,000 if not given); as many
+//! claims follow them.
 
+mod claims;
 mod compare;
 mod library;
+mod report;
 
 use ::compare::encode;
 use ::compare::make::refutations::Known;
 use ::compare::make::{damage, descriptions, graphs, lines, refutations, spoil_graph, spoil_list};
 use ::compare::paper::description::Description;
-use ::compare::paper::evidence::{Claim, Node};
+use ::compare::paper::evidence::{Closing, Node};
 use ::compare::paper::label::Label;
 use ::compare::paper::line::{copies, length, Line, MOST_ELEMENTS};
 use ::compare::random::Random;
 use compare::Comparison;
 use std::process::ExitCode;
-
-/// Each refusal must come as often, and each word but REFUSED.
-const LEAST_REFUSALS: usize = 200;
-const LEAST_WORDS: usize = 1000;
 
 fn main() -> ExitCode {
     let mut arguments = std::env::args().skip(1).map(|a| a.parse::<u64>());
@@ -32,10 +31,14 @@ fn main() -> ExitCode {
     let mut r = Random::new(seed);
     let mut comparison = Comparison::default();
     let mut evidence = Vec::new();
-    while comparison.inputs < inputs as usize && comparison.differences < 20 {
+    while comparison.inputs() < inputs as usize && comparison.differences < 20 {
         evidence = round(&mut r, &mut comparison, &evidence);
     }
-    report(&comparison)
+    let mut before = vec![evidence];
+    while comparison.inputs() < 2 * inputs as usize && comparison.differences < 20 {
+        claims::round(&mut r, &mut comparison, &mut before);
+    }
+    ExitCode::from(!report::report(&comparison) as u8)
 }
 
 /// One description with evidence, lines and damage to all of them; also with the evidence of
@@ -44,17 +47,18 @@ fn round(r: &mut Random, c: &mut Comparison, before: &[u8]) -> Vec<u8> {
     let description = descriptions::random(r);
     let bytes = encode::description(&description);
     c.check(&bytes, before);
-    let evidence = match graphs::search(r, &description, 6) {
+    let root = Label::of(&[description.root]);
+    let evidence = match graphs::search(r, &description, root, 6) {
         Some(nodes) => with_graph(r, c, &description, &bytes, &nodes),
-        None => match refutations::search(r, &description, Known::AsSaid, 4) {
-            Some(claims) => with_list(r, c, &description, &bytes, &claims),
+        None => match refutations::search(r, &description, root, Known::AsSaid, 4) {
+            Some(closings) => with_list(r, c, &description, &bytes, &closings),
             None => with_nothing(r, c, &description, &bytes),
         },
     };
     // Lists that rest on an error about cells; most often the description is not empty.
     for known in [Known::Denied, Known::Reached, Known::Carried] {
-        if let Some(claims) = refutations::search(r, &description, known, 1) {
-            c.check(&bytes, &encode::list(&claims));
+        if let Some(closings) = refutations::search(r, &description, root, known, 1) {
+            c.check(&bytes, &encode::list(&closings));
         }
     }
     for _ in 0..3 {
@@ -124,15 +128,15 @@ fn with_list(
     c: &mut Comparison,
     description: &Description,
     bytes: &[u8],
-    claims: &[Claim],
+    closings: &[Closing],
 ) -> Vec<u8> {
-    let evidence = encode::list(claims);
+    let evidence = encode::list(closings);
     c.check(bytes, &evidence);
     if r.one_in(4) {
         c.write(bytes, &evidence, 100, r.byte());
     }
     for _ in 0..16 {
-        let spoiled = spoil_list::spoiled(r, description, claims);
+        let spoiled = spoil_list::spoiled(r, description, closings);
         c.check(bytes, &spoiled);
     }
     evidence
@@ -153,21 +157,4 @@ fn with_nothing(
     c.check(bytes, &evidence);
     c.check(bytes, &damage::bytes(r, &evidence));
     evidence
-}
-
-fn report(c: &Comparison) -> ExitCode {
-    let mut rare = false;
-    for (word, count) in library::WORDS.iter().zip(c.words) {
-        println!("{word:10} {count:7}");
-        rare |= count < LEAST_WORDS;
-    }
-    for (number, count) in c.refusals.iter().enumerate().skip(1) {
-        println!("refusal {number:2} {count:7}");
-        rare |= *count < LEAST_REFUSALS;
-    }
-    if rare {
-        println!("Some answer came too seldom ({LEAST_WORDS} for a word, {LEAST_REFUSALS} for a refusal).");
-    }
-    println!("{} inputs, {} differences", c.inputs, c.differences);
-    ExitCode::from((rare || c.differences > 0) as u8)
 }

@@ -1,11 +1,12 @@
-//! The paper's trial descriptions P1 to P10, by the implementation alone.
+//! The paper's trial descriptions P1 to P10, and claims about that of P3 to P7, by the
+//! implementation alone.
 
 use compare::encode;
 use compare::paper::counting::OPEN;
 use compare::paper::description::{ancestors, Concept, Description, Role};
-use compare::paper::evidence::{Claim, Counting, Edge, Node, Step, Tree};
-use compare::paper::label::Label;
-use compare::paper::{check, read, write, Answer, Refusal};
+use compare::paper::evidence::{Closing, Counting, Edge, Node, Step, Tree};
+use compare::paper::label::{Label, Literal};
+use compare::paper::{check, claim, read, write, Answer, Refusal};
 
 const P1: [u8; 22] = [
     0, 0x0C, 0, 3, 0, 0x0F, 0, 6, 0, 0x15, 0, 1, 0, 0, 0, 0, 0, 0, 0, 0, 0, 0,
@@ -53,6 +54,11 @@ fn counted(root: u8) -> Vec<u8> {
 }
 
 fn two_nodes(count: u16) -> Vec<u8> {
+    fillers(&[0, 2, 5, 6], count)
+}
+
+/// A node with that label and so many fillers.
+fn fillers(label: &[Literal], count: u16) -> Vec<u8> {
     let edge = Edge {
         target: 1,
         mask: 1,
@@ -60,7 +66,7 @@ fn two_nodes(count: u16) -> Vec<u8> {
     };
     encode::graph(&[
         Node {
-            label: Label::of(&[0, 2, 5, 6]),
+            label: Label::of(label),
             edges: vec![edge],
         },
         Node {
@@ -71,17 +77,21 @@ fn two_nodes(count: u16) -> Vec<u8> {
 }
 
 fn closing(leaf: [u8; 2]) -> Vec<u8> {
+    encode::list(&closings(leaf))
+}
+
+fn closings(leaf: [u8; 2]) -> [Closing; 3] {
     let counting = Counting {
         rows: vec![3, 4],
         cells: vec![0, 0, OPEN],
         tree: Tree::Leaf(leaf.to_vec()),
     };
-    let claims = [
+    let records = [
         (Label::of(&[1]), Step::Clash(1)),
         (Label::of(&[3, 4]), Step::Counting(counting)),
         (Label::of(&[8]), Step::Both { entry: 4, cite: 1 }),
     ];
-    encode::list(&claims.map(|(label, step)| Claim { label, step }))
+    records.map(|(label, step)| Closing { label, step })
 }
 
 #[test]
@@ -91,7 +101,7 @@ fn p1_p2_p10() {
     assert_eq!(check(&P1, &[]), refused(9, 0));
     let mut p2 = P1;
     p2[21] = 1;
-    let list = encode::list(&[Claim {
+    let list = encode::list(&[Closing {
         label: Label::of(&[1]),
         step: Step::Clash(1),
     }]);
@@ -136,4 +146,77 @@ fn p8_p9() {
     assert_eq!(check(&p8, &[]), refused(7, 0));
     let p9 = described(roles, vec![Concept::Top, at_least(1, 1)], 0);
     assert_eq!(check(&p9, &[]), refused(5, 0));
+}
+
+/// Nothing has at least 3 fillers and not at least 2.
+fn three_are_two(leaf: [u8; 2]) -> Vec<u8> {
+    encode::list(&closings(leaf)[..2])
+}
+
+#[test]
+fn claims_answered() {
+    // The root is not used, whatever it is.
+    for root in 0..10 {
+        let description = counted(root);
+        let judge = |c, d, first: &[u8], second: &[u8]| claim(&description, c, d, first, second);
+        let three = fillers(&[0, 4], 3);
+        let holds = judge(4, 2, &three_are_two([1, 1]), &three);
+        assert_eq!(holds, Answer::Holds);
+        assert_eq!(judge(2, 4, &two_nodes(2), &[]), Answer::Fails);
+        for d in 0..10 {
+            let nothing = judge(8, d, &closing([1, 1]), &[]);
+            assert_eq!(nothing, Answer::HoldsOfNothing);
+        }
+        // Every C is C, once there is a C; "every C is not C" then fails.
+        let clash = Closing {
+            label: Label::of(&[0, 4, 5]),
+            step: Step::Clash(5),
+        };
+        assert_eq!(judge(4, 4, &encode::list(&[clash]), &three), Answer::Holds);
+        assert_eq!(judge(4, 5, &three, &[]), Answer::Fails);
+    }
+}
+
+#[test]
+fn claims_without_their_literals() {
+    let judge = |c, d, first: &[u8], second: &[u8]| claim(&counted(0), c, d, first, second);
+    let (list, three, two) = (
+        three_are_two([1, 1]),
+        fillers(&[0, 4], 3),
+        fillers(&[0, 2], 2),
+    );
+    // The list needs "not D", which HOLDS OF NOTHING does not allow.
+    assert_eq!(judge(4, 2, &list, &[]), refused(20, 1));
+    assert_eq!(judge(4, 3, &list, &three), refused(20, 1));
+    assert_eq!(judge(8, 2, &list, &three), refused(20, 1));
+    // A graph of something else, and one that leaves D open.
+    assert_eq!(judge(4, 2, &list, &two), refused(11, 0));
+    assert_eq!(judge(2, 4, &two, &[]), refused(11, 0));
+    assert_eq!(judge(4, 2, &three, &[]), refused(11, 0));
+}
+
+#[test]
+fn claims_refused_in_order() {
+    let judge = |c, d, first: &[u8], second: &[u8]| claim(&counted(0), c, d, first, second);
+    let (list, three) = (three_are_two([1, 1]), fillers(&[0, 4], 3));
+    assert_eq!(claim(&counted(10), 10, 2, &[], &[]), refused(8, 0));
+    // C or D past the table comes before 9, unfit kinds after it.
+    for past in [10, 11, 63, 64, 255] {
+        assert_eq!(judge(past, 2, &[], &[]), refused(24, 0));
+        assert_eq!(judge(4, past, &list, &three), refused(24, 0));
+    }
+    for (first, second) in [(&three, &list), (&list, &list), (&three, &three)] {
+        assert_eq!(judge(4, 2, first, second), refused(24, 0));
+        assert_eq!(judge(4, 2, first, &second[..1]), refused(9, 0));
+    }
+    assert_eq!(judge(4, 2, &[], &three), refused(9, 0));
+    assert_eq!(judge(4, 2, &[], &[]), refused(9, 0));
+    // The first piece whole before the second, whose record 1 is cut here.
+    let mut cut = three.clone();
+    cut.pop();
+    let length = 2 + 4 * 2 - 1;
+    cut[length] -= 1;
+    assert_eq!(judge(4, 2, &three_are_two([1, 0]), &cut), refused(19, 1));
+    assert_eq!(judge(4, 3, &list, &cut), refused(20, 1));
+    assert_eq!(judge(4, 2, &list, &cut), refused(10, 1));
 }

@@ -61,6 +61,22 @@ fn weigh() {
 }
 
 #[test]
+fn claims() {
+    for row in rows(&["claims"], 6) {
+        let literal = |field: &String| field.parse().expect("a literal");
+        let (c, d) = (literal(&row[1]), literal(&row[2]));
+        let answer = match paper::claim(&bytes(&row[0]), c, d, &bytes(&row[3]), &bytes(&row[4])) {
+            Answer::Holds => "HOLDS 0 0".into(),
+            Answer::Fails => "FAILS 0 0".into(),
+            Answer::HoldsOfNothing => "HOLDS OF NOTHING 0 0".into(),
+            Answer::Refused(refusal) => refused(refusal),
+            other => panic!("{other:?} is no answer to a claim"),
+        };
+        assert_eq!(answer, row[5], "claim {row:?}");
+    }
+}
+
+#[test]
 fn write() {
     for row in rows(&["write", "write_trials", "write_worst"], 4) {
         let room: usize = row[2].parse().expect("a length");

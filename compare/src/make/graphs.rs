@@ -8,8 +8,14 @@ use crate::paper::graph;
 use crate::paper::label::{opposite, Label, Literal};
 use crate::random::Random;
 
-/// A graph that keeps the rules, if a few tries find one.
-pub fn search(r: &mut Random, description: &Description, tries: usize) -> Option<Vec<Node>> {
+/// A graph that keeps the rules and whose record 0 has the literals wanted, if a few tries
+/// find one.
+pub fn search(
+    r: &mut Random,
+    description: &Description,
+    wanted: Label,
+    tries: usize,
+) -> Option<Vec<Node>> {
     for _ in 0..tries {
         let mut maker = Maker {
             merge: r.below(3),
@@ -18,7 +24,8 @@ pub fn search(r: &mut Random, description: &Description, tries: usize) -> Option
             description,
             nodes: Vec::new(),
         };
-        if maker.expand().is_some() && graph::weigh(description, &maker.nodes).is_ok() {
+        let found = maker.expand(wanted).is_some();
+        if found && graph::weigh(description, wanted, &maker.nodes).is_ok() {
             return Some(maker.nodes);
         }
     }
@@ -42,8 +49,8 @@ struct Demand {
 }
 
 impl Maker<'_> {
-    fn expand(&mut self) -> Option<()> {
-        self.node(Label::of(&[self.description.root]))?;
+    fn expand(&mut self, wanted: Label) -> Option<()> {
+        self.node(wanted)?;
         if self.r.one_in(4) {
             // Nodes that nothing leads to must keep the rules as well.
             for _ in 0..self.r.range(1, 4) {

@@ -1,11 +1,13 @@
-//! Makers of inputs: accepted descriptions, evidence found by small searches, lines, and
+//! Makers of inputs: accepted descriptions, evidence found by small searches, lines, claims, and
 //! damage to each of them.
 
+pub mod claims;
 pub mod damage;
 pub mod descriptions;
 pub mod graphs;
 pub mod lines;
 pub mod refutations;
+pub mod spoil_claim;
 pub mod spoil_graph;
 pub mod spoil_list;
 pub mod swell;

@@ -3,7 +3,7 @@
 use crate::make::trees;
 use crate::paper::counting::{in_cell, known_label, open_cells, row, Row, OPEN};
 use crate::paper::description::{Concept, Description};
-use crate::paper::evidence::{Cite, Claim, Counting, Step, MOST_RECORDS};
+use crate::paper::evidence::{Cite, Closing, Counting, Step, MOST_RECORDS};
 use crate::paper::label::{opposite, Label, Literal};
 use crate::random::Random;
 
@@ -20,33 +20,34 @@ pub enum Known {
     Carried,
 }
 
-/// A list that closes the root, if a few tries find one; it is not tested here.
+/// A list that closes the literals wanted, if a few tries find one; it is not tested here.
 pub fn search(
     r: &mut Random,
     description: &Description,
+    wanted: Label,
     known: Known,
     tries: usize,
-) -> Option<Vec<Claim>> {
+) -> Option<Vec<Closing>> {
     for _ in 0..tries {
         let mut search = Search {
             known,
             keep_whole: r.one_in(4),
             r,
             description,
-            claims: Vec::new(),
+            closings: Vec::new(),
             fuel: 400,
         };
-        let mut goal = Label::of(&[description.root]);
+        let mut goal = wanted;
         if search.r.one_in(2) {
             goal = goal.with(0);
         }
         if let Some(last) = search.refute(goal, 0) {
-            let mut claims = search.claims;
-            claims.truncate(last as usize + 1);
-            if r.one_in(4) && claims.len() <= MOST_RECORDS {
-                return Some(claims);
+            let mut closings = search.closings;
+            closings.truncate(last as usize + 1);
+            if r.one_in(4) && closings.len() <= MOST_RECORDS {
+                return Some(closings);
             }
-            let used = only_used(&claims);
+            let used = only_used(&closings);
             if used.len() <= MOST_RECORDS {
                 return Some(used);
             }
@@ -58,10 +59,10 @@ pub fn search(
 struct Search<'a> {
     r: &'a mut Random,
     description: &'a Description,
-    claims: Vec<Claim>,
+    closings: Vec<Closing>,
     fuel: usize,
     known: Known,
-    /// Claims keep the whole label at hand and not only what they need.
+    /// Closings keep the whole label at hand and not only what they need.
     keep_whole: bool,
 }
 
@@ -69,10 +70,10 @@ impl Search<'_> {
     /// A record whose label is within the given one.
     fn refute(&mut self, label: Label, depth: usize) -> Option<Cite> {
         self.fuel = self.fuel.checked_sub(1)?;
-        if self.claims.len() >= 200 {
+        if self.closings.len() >= 200 {
             return None;
         }
-        if let Some(old) = self.claims.iter().position(|c| c.label.within(label)) {
+        if let Some(old) = self.closings.iter().position(|c| c.label.within(label)) {
             return Some(old as Cite);
         }
         if let Some(clash) = self.clash(label) {
@@ -106,14 +107,14 @@ impl Search<'_> {
         self.by_counting(label, depth)
     }
 
-    fn claim(&mut self, whole: Label, needed: Label, step: Step) -> Option<Cite> {
+    fn closing(&mut self, whole: Label, needed: Label, step: Step) -> Option<Cite> {
         let label = if self.keep_whole { whole } else { needed };
-        self.claims.push(Claim { label, step });
-        Some((self.claims.len() - 1) as Cite)
+        self.closings.push(Closing { label, step });
+        Some((self.closings.len() - 1) as Cite)
     }
 
     fn cited(&self, cite: Cite) -> Label {
-        self.claims[cite as usize].label
+        self.closings[cite as usize].label
     }
 
     /// Step 1.
@@ -125,7 +126,7 @@ impl Search<'_> {
         let needed = Label::of(&[l, l + 1]);
         let needed = if l == 0 { needed.without(0) } else { needed };
         let l = l + self.r.below(2) as Literal;
-        self.claim(label, needed, Step::Clash(l))
+        self.closing(label, needed, Step::Clash(l))
     }
 
     /// Step 4.
@@ -135,7 +136,7 @@ impl Search<'_> {
             return Some(cite);
         }
         let needed = self.cited(cite).without(l);
-        self.claim(label, needed, Step::Rule { rule, cite })
+        self.closing(label, needed, Step::Rule { rule, cite })
     }
 
     /// Step 2.
@@ -146,7 +147,7 @@ impl Search<'_> {
         }
         let needed = self.cited(cite).without(of[0]).without(of[1]);
         let needed = needed.with(2 * entry);
-        self.claim(label, needed, Step::Both { entry, cite })
+        self.closing(label, needed, Step::Both { entry, cite })
     }
 
     /// Two cites, within the label plus one literal each.
@@ -163,13 +164,13 @@ impl Search<'_> {
         let plus = [opposite(of[0]), opposite(of[1])];
         let (cites, needed) = self.two(label, plus, depth)?;
         let needed = needed.with(2 * entry + 1);
-        self.claim(label, needed, Step::NotBoth { entry, cites })
+        self.closing(label, needed, Step::NotBoth { entry, cites })
     }
 
     /// Step 5.
     fn by_cases(&mut self, label: Label, entry: u8, depth: usize) -> Option<Cite> {
         let (cites, needed) = self.two(label, [2 * entry, 2 * entry + 1], depth)?;
-        self.claim(label, needed, Step::Cases { entry, cites })
+        self.closing(label, needed, Step::Cases { entry, cites })
     }
 
     /// Step 6, with all rows of the label or with some of them.
@@ -235,7 +236,7 @@ impl Search<'_> {
             cells.push(cite);
         }
         // More records than a cell byte can cite: the list would be too long as well.
-        if self.claims.len() > 200 {
+        if self.closings.len() > 200 {
             return None;
         }
         let tree = trees::search(self.r, &rows, &open_cells(&cells))?;
@@ -250,7 +251,7 @@ impl Search<'_> {
             cells,
             tree,
         };
-        self.claim(label, needed, Step::Counting(step))
+        self.closing(label, needed, Step::Counting(step))
     }
 }
 
@@ -265,25 +266,25 @@ pub fn cites_of(step: &mut Step) -> Vec<&mut Cite> {
 }
 
 /// The records that the last one rests on, numbered anew.
-fn only_used(claims: &[Claim]) -> Vec<Claim> {
-    let mut claims = claims.to_vec();
-    let mut used = vec![false; claims.len()];
-    used[claims.len() - 1] = true;
-    for i in (0..claims.len()).rev() {
+fn only_used(closings: &[Closing]) -> Vec<Closing> {
+    let mut closings = closings.to_vec();
+    let mut used = vec![false; closings.len()];
+    used[closings.len() - 1] = true;
+    for i in (0..closings.len()).rev() {
         if used[i] {
-            for cite in cites_of(&mut claims[i].step) {
+            for cite in cites_of(&mut closings[i].step) {
                 used[*cite as usize] = true;
             }
         }
     }
     let place = |i: usize| used[..i].iter().filter(|u| **u).count();
     let mut kept = Vec::new();
-    for (i, claim) in claims.iter_mut().enumerate() {
+    for (i, closing) in closings.iter_mut().enumerate() {
         if used[i] {
-            for cite in cites_of(&mut claim.step) {
+            for cite in cites_of(&mut closing.step) {
                 *cite = place(*cite as usize) as Cite;
             }
-            kept.push(claim.clone());
+            kept.push(closing.clone());
         }
     }
     kept

@@ -7,34 +7,34 @@ use crate::make::spoil_graph::head;
 use crate::make::swell;
 use crate::paper::counting::{open_cells, OPEN};
 use crate::paper::description::Description;
-use crate::paper::evidence::{Claim, Counting, Step, Tree};
+use crate::paper::evidence::{Closing, Counting, Step, Tree};
 use crate::paper::label::{Label, Literal};
 use crate::random::Random;
 
-pub fn spoiled(r: &mut Random, description: &Description, claims: &[Claim]) -> Vec<u8> {
-    let bytes = encode::list(claims);
+pub fn spoiled(r: &mut Random, description: &Description, closings: &[Closing]) -> Vec<u8> {
+    let bytes = encode::list(closings);
     match r.below(14) {
         0 => damage::bytes(r, &bytes),
-        1 => damage::pairs(r, &bytes, 2, claims.len()),
+        1 => damage::pairs(r, &bytes, 2, closings.len()),
         2 => head(r, &bytes),
-        3 => form(r, claims),
-        4 if r.one_in(10) => swell::past_16_bits(r, claims).unwrap_or(bytes),
+        3 => form(r, closings),
+        4 if r.one_in(10) => swell::past_16_bits(r, closings).unwrap_or(bytes),
         _ => {
-            let mut claims = claims.to_vec();
-            change(r, description, &mut claims);
-            encode::list(&claims)
+            let mut closings = closings.to_vec();
+            change(r, description, &mut closings);
+            encode::list(&closings)
         }
     }
 }
 
 /// A record too short or too long, an unknown step, another k; the pairs agree.
-fn form(r: &mut Random, claims: &[Claim]) -> Vec<u8> {
-    let mut records: Vec<Vec<u8>> = claims.iter().map(encode::claim).collect();
+fn form(r: &mut Random, closings: &[Closing]) -> Vec<u8> {
+    let mut records: Vec<Vec<u8>> = closings.iter().map(encode::closing).collect();
     let i = r.below(records.len());
     let record = &mut records[i];
     match r.below(6) {
         // The end of the last record may lie past 65,535.
-        0 if i + 1 == claims.len() => record.resize(r.pick(&[300, 60_000, 65_535]), 1),
+        0 if i + 1 == closings.len() => record.resize(r.pick(&[300, 60_000, 65_535]), 1),
         0 => record.truncate(r.below(record.len())),
         1 => record.push(0),
         2 => {
@@ -50,62 +50,62 @@ fn form(r: &mut Random, claims: &[Claim]) -> Vec<u8> {
     encode::bundle(2, &records)
 }
 
-fn change(r: &mut Random, description: &Description, claims: &mut Vec<Claim>) {
-    let i = r.below(claims.len());
-    let counting = |claim: &Claim| matches!(claim.step, Step::Counting(_));
-    let steps: Vec<usize> = (0..claims.len())
-        .filter(|&i| counting(&claims[i]))
+fn change(r: &mut Random, description: &Description, closings: &mut Vec<Closing>) {
+    let i = r.below(closings.len());
+    let counting = |closing: &Closing| matches!(closing.step, Step::Counting(_));
+    let steps: Vec<usize> = (0..closings.len())
+        .filter(|&i| counting(&closings[i]))
         .collect();
     if !steps.is_empty() && r.one_in(2) {
         let i = r.pick(&steps);
         if r.one_in(30) {
-            claims[i] = swell::full_claim(&claims[i], 8).unwrap_or(claims[i].clone());
+            closings[i] = swell::full_closing(&closings[i], 8).unwrap_or(closings[i].clone());
         }
-        if let Step::Counting(step) = &mut claims[i].step {
+        if let Step::Counting(step) = &mut closings[i].step {
             count(r, description, step, i);
         }
         return;
     }
     match r.below(10) {
-        0..=1 => label(r, description, &mut claims[i]),
-        2..=3 => cite(r, &mut claims[i].step, i),
-        4..=5 => subject(r, description, &mut claims[i].step),
+        0..=1 => label(r, description, &mut closings[i]),
+        2..=3 => cite(r, &mut closings[i].step, i),
+        4..=5 => subject(r, description, &mut closings[i].step),
         6 => {
-            let other = r.below(claims.len());
-            claims.swap(i, other);
+            let other = r.below(closings.len());
+            closings.swap(i, other);
         }
         7 => {
             // The end is missing, or another record stands there.
-            if claims.len() > 1 {
-                claims.pop();
+            if closings.len() > 1 {
+                closings.pop();
             }
         }
         8 => {
             // Another record at the end; 64 records, or 65.
-            let copy = claims[i].clone();
-            let last = claims[claims.len() - 1].clone();
+            let copy = closings[i].clone();
+            let last = closings[closings.len() - 1].clone();
             match r.below(4) {
-                0 => claims.resize(64, last),
-                1 => claims.resize(65, last),
-                _ => claims.push(copy),
+                0 => closings.resize(64, last),
+                1 => closings.resize(65, last),
+                _ => closings.push(copy),
             }
         }
         _ => {
-            let last = claims.len() - 1;
+            let last = closings.len() - 1;
             let l = r.below(2 * description.concepts.len());
-            claims[last].label = claims[last].label.with(l as Literal);
+            closings[last].label = closings[last].label.with(l as Literal);
         }
     }
 }
 
-fn label(r: &mut Random, description: &Description, claim: &mut Claim) {
-    let held: Vec<Literal> = (0..64).filter(|&l| claim.label.has(l)).collect();
+fn label(r: &mut Random, description: &Description, closing: &mut Closing) {
+    let held: Vec<Literal> = (0..64).filter(|&l| closing.label.has(l)).collect();
     match r.below(5) {
-        0..=2 if !held.is_empty() => claim.label = claim.label.without(r.pick(&held)),
-        3 => claim.label = Label(claim.label.0 ^ 1 << r.below(64)),
+        0..=2 if !held.is_empty() => closing.label = closing.label.without(r.pick(&held)),
+        3 => closing.label = Label(closing.label.0 ^ 1 << r.below(64)),
         _ => {
             let l = r.below(2 * description.concepts.len());
-            claim.label = Label(claim.label.0 ^ 1 << l);
+            closing.label = Label(closing.label.0 ^ 1 << l);
         }
     }
 }

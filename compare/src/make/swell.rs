@@ -2,32 +2,32 @@
 
 use crate::encode;
 use crate::paper::counting::open_cells;
-use crate::paper::evidence::{Claim, Counting, Step, Tree, MOST_RECORDS};
+use crate::paper::evidence::{Closing, Counting, Step, Tree, MOST_RECORDS};
 use crate::paper::label::Label;
 use crate::random::Random;
 
 /// A list that still closes and whose last record reaches past 65,535, or just not, or that
 /// no pairs can name. Full copies of a counting step come before the last record.
-pub fn past_16_bits(r: &mut Random, claims: &[Claim]) -> Option<Vec<u8>> {
-    let (last, before) = claims.split_last()?;
+pub fn past_16_bits(r: &mut Random, closings: &[Closing]) -> Option<Vec<u8>> {
+    let (last, before) = closings.split_last()?;
     let first = before
         .iter()
         .find(|c| matches!(c.step, Step::Counting(_)))?;
-    let mut records: Vec<Vec<u8>> = before.iter().map(encode::claim).collect();
-    let end = encode::claim(last);
+    let mut records: Vec<Vec<u8>> = before.iter().map(encode::closing).collect();
+    let end = encode::closing(last);
     let head = 2 + 4 * MOST_RECORDS;
     let used: usize = records.iter().map(Vec::len).sum();
     // Where the last record is to begin: its end passes 65,535, or its offset does.
     let goal = r.range(65_500, 65_580);
     let mut left = usize::checked_sub(goal, head + used)?;
     // The other records are filled up with clashes of 10 bytes.
-    let clash = Claim {
+    let clash = Closing {
         label: Label::of(&[0, 1]),
         step: Step::Clash(1),
     };
-    let clash = encode::claim(&clash);
+    let clash = encode::closing(&clash);
     for depth in (0..=8).rev() {
-        let full = encode::claim(&full_claim(first, depth)?);
+        let full = encode::closing(&full_closing(first, depth)?);
         while records.len() < MOST_RECORDS - 1 {
             let clashes = (MOST_RECORDS - 2 - records.len()) * clash.len();
             if left < full.len() + clashes {
@@ -44,15 +44,15 @@ pub fn past_16_bits(r: &mut Random, claims: &[Claim]) -> Option<Vec<u8>> {
     Some(encode::bundle(2, &records))
 }
 
-/// The claim with every leaf split down to a depth; the splits are not needed.
-pub fn full_claim(claim: &Claim, depth: usize) -> Option<Claim> {
-    let Step::Counting(step) = &claim.step else {
+/// The closing with every leaf split down to a depth; the splits are not needed.
+pub fn full_closing(closing: &Closing, depth: usize) -> Option<Closing> {
+    let Step::Counting(step) = &closing.step else {
         return None;
     };
     let cell = open_cells(&step.cells).first().copied().unwrap_or(1) as u8;
     let tree = full_tree(&step.tree, cell, 0, depth);
-    Some(Claim {
-        label: claim.label,
+    Some(Closing {
+        label: closing.label,
         step: Step::Counting(Counting {
             tree,
             ..step.clone()

@@ -135,8 +135,12 @@ impl Description {
 
     /// 8: root and rules are literals of the table.
     fn question_in_table(&self) -> bool {
-        let past = |l: Literal| l as usize >= 2 * self.concepts.len();
-        !past(self.root) && !self.rules.iter().any(|&l| past(l))
+        self.in_table(self.root) && self.rules.iter().all(|&l| self.in_table(l))
+    }
+
+    /// Is it a literal of an entry of the table?
+    pub fn in_table(&self, l: Literal) -> bool {
+        (l as usize) < 2 * self.concepts.len()
     }
 }
 

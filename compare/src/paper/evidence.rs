@@ -25,7 +25,7 @@ pub struct Edge {
 
 /// A record of a closing list: no element has its label.
 #[derive(Clone, PartialEq, Eq, Debug)]
-pub struct Claim {
+pub struct Closing {
     pub label: Label,
     pub step: Step,
 }
@@ -100,9 +100,9 @@ pub fn nodes(records: &[&[u8]]) -> Result<Vec<Node>, Refusal> {
 }
 
 /// 10, over all records of a list, rising.
-pub fn claims(records: &[&[u8]]) -> Result<Vec<Claim>, Refusal> {
-    let claim = |(i, bytes)| claim(bytes).ok_or(Refusal::at(10, i));
-    records.iter().copied().enumerate().map(claim).collect()
+pub fn closings(records: &[&[u8]]) -> Result<Vec<Closing>, Refusal> {
+    let closing = |(i, bytes)| closing(bytes).ok_or(Refusal::at(10, i));
+    records.iter().copied().enumerate().map(closing).collect()
 }
 
 /// A label and 0 to 32 edges of 5 bytes.
@@ -123,7 +123,7 @@ fn node(bytes: &[u8]) -> Option<Node> {
 }
 
 /// A label, a step byte and the data of that step, with no byte left over.
-fn claim(bytes: &[u8]) -> Option<Claim> {
+fn closing(bytes: &[u8]) -> Option<Closing> {
     let step = *bytes.get(8)?;
     let data = &bytes[9..];
     let step = match (step, data) {
@@ -141,7 +141,7 @@ fn claim(bytes: &[u8]) -> Option<Claim> {
         (6, data) => Step::Counting(counting(data)?),
         _ => return None,
     };
-    Some(Claim {
+    Some(Closing {
         label: Label::read(bytes),
         step,
     })

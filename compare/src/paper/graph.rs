@@ -2,12 +2,14 @@
 
 use super::description::{Concept, Description};
 use super::evidence::{Edge, Node};
-use super::label::{opposite, Literal};
+use super::label::{opposite, Label, Literal};
 use super::Refusal;
 
 /// One record of a graph, with what its rules ask about.
 struct Place<'a> {
     description: &'a Description,
+    /// What record 0 has to have: the root, or literals of a claim.
+    wanted: Label,
     nodes: &'a [Node],
     record: usize,
 }
@@ -15,7 +17,11 @@ struct Place<'a> {
 type Rule<'a> = fn(&Place<'a>) -> bool;
 
 /// Records rising, and within one the smallest number.
-pub fn weigh<'a>(description: &'a Description, nodes: &'a [Node]) -> Result<(), Refusal> {
+pub fn weigh<'a>(
+    description: &'a Description,
+    wanted: Label,
+    nodes: &'a [Node],
+) -> Result<(), Refusal> {
     let rules: [(u8, Rule<'a>); 5] = [
         (11, Place::label),
         (12, Place::both),
@@ -26,6 +32,7 @@ pub fn weigh<'a>(description: &'a Description, nodes: &'a [Node]) -> Result<(), 
     for record in 0..nodes.len() {
         let place = Place {
             description,
+            wanted,
             nodes,
             record,
         };
@@ -66,14 +73,14 @@ impl Place<'_> {
         })
     }
 
-    /// 11: in the table, literal 0, all rules, no clash; record 0 has the root.
+    /// 11: in the table, literal 0, all rules, no clash; record 0 has the literals wanted.
     fn label(&self) -> bool {
         let label = self.node().label;
         label.in_table(self.description.concepts.len())
             && label.has(0)
             && self.description.rules.iter().all(|&l| label.has(l))
             && !label.clashes()
-            && (self.record != 0 || label.has(self.description.root))
+            && (self.record != 0 || self.wanted.within(label))
     }
 
     /// 12: "both" brings both literals, its complement the opposite of one.

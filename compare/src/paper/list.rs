@@ -2,31 +2,36 @@
 
 use super::counting::{known_label, row, tree_closes, Row, OPEN};
 use super::description::{Concept, Description};
-use super::evidence::{Cite, Claim, Counting, Step};
+use super::evidence::{Cite, Closing, Counting, Step};
 use super::label::{opposite, Label, Literal};
 use super::Refusal;
 
 /// One record of a list, with what its tests ask about.
 struct Place<'a> {
     description: &'a Description,
-    claims: &'a [Claim],
+    closings: &'a [Closing],
     record: usize,
 }
 
 type Test<'a> = fn(&Place<'a>) -> bool;
 
-/// Records rising, and within one the smallest number; then the end.
-pub fn weigh<'a>(description: &'a Description, claims: &'a [Claim]) -> Result<(), Refusal> {
+/// Records rising, and within one the smallest number; then the end, which is to close the
+/// literals wanted: the root, or literals of a claim.
+pub fn weigh<'a>(
+    description: &'a Description,
+    wanted: Label,
+    closings: &'a [Closing],
+) -> Result<(), Refusal> {
     let tests: [(u8, Test<'a>); 4] = [
         (16, Place::cites),
         (17, Place::step),
         (18, Place::cells),
         (19, Place::tree),
     ];
-    for record in 0..claims.len() {
+    for record in 0..closings.len() {
         let place = Place {
             description,
-            claims,
+            closings,
             record,
         };
         for (number, keeps) in tests {
@@ -35,21 +40,21 @@ pub fn weigh<'a>(description: &'a Description, claims: &'a [Claim]) -> Result<()
             }
         }
     }
-    // 20: the last label holds at most literal 0 and the root.
-    let last = claims.len() - 1;
-    if !claims[last].label.within(Label::of(&[0, description.root])) {
+    // 20: the last label holds at most literal 0 and the literals wanted.
+    let last = closings.len() - 1;
+    if !closings[last].label.within(wanted.with(0)) {
         return Err(Refusal::at(20, last));
     }
     Ok(())
 }
 
 impl Place<'_> {
-    fn claim(&self) -> &Claim {
-        &self.claims[self.record]
+    fn closing(&self) -> &Closing {
+        &self.closings[self.record]
     }
 
     fn label(&self) -> Label {
-        self.claim().label
+        self.closing().label
     }
 
     fn earlier(&self, cite: Cite) -> bool {
@@ -58,7 +63,7 @@ impl Place<'_> {
 
     /// Does the cited label lie within the label named?
     fn cited_within(&self, cite: Cite, label: Label) -> bool {
-        self.claims[cite as usize].label.within(label)
+        self.closings[cite as usize].label.within(label)
     }
 
     /// The literals of a "both" entry.
@@ -76,7 +81,7 @@ impl Place<'_> {
         let entry_ok = |e: u8| (e as usize) < entries;
         let rule_ok = |r: u8| (r as usize) < self.description.rules.len();
         let all_earlier = |cites: &[Cite]| cites.iter().all(|&c| self.earlier(c));
-        let step_ok = match &self.claim().step {
+        let step_ok = match &self.closing().step {
             Step::Clash(l) => literal_ok(*l),
             Step::Both { entry, cite } => entry_ok(*entry) && self.earlier(*cite),
             Step::NotBoth { entry, cites } => entry_ok(*entry) && all_earlier(cites),
@@ -92,7 +97,7 @@ impl Place<'_> {
 
     /// 17: steps 1 to 5 as said, and the rows of step 6 as said.
     fn step(&self) -> bool {
-        match &self.claim().step {
+        match &self.closing().step {
             Step::Clash(l) => self.clash(*l),
             Step::Both { entry, cite } => self.both(*entry, *cite),
             Step::NotBoth { entry, cites } => self.not_both(*entry, *cites),
@@ -157,7 +162,7 @@ impl Place<'_> {
 
     /// 18: the label that a cell cites lies within the cell's known label.
     fn cells(&self) -> bool {
-        let Step::Counting(step) = &self.claim().step else {
+        let Step::Counting(step) = &self.closing().step else {
             return true;
         };
         let rows = self.rows(step);
@@ -169,7 +174,7 @@ impl Place<'_> {
 
     /// 19: the tree closes.
     fn tree(&self) -> bool {
-        match &self.claim().step {
+        match &self.closing().step {
             Step::Counting(step) => tree_closes(step, &self.rows(step)),
             _ => true,
         }

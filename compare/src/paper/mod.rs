@@ -1,6 +1,8 @@
-//! The paper's answers: the verdict on evidence, the written line, the reading of a line.
+//! The papers' answers: the verdict on evidence, the written line, the reading of a line, and
+//! the judgement of a claim.
 
 pub mod bytes;
+pub mod claim;
 pub mod counting;
 pub mod description;
 pub mod evidence;
@@ -11,6 +13,7 @@ pub mod list;
 
 use description::Description;
 use evidence::Head;
+use label::Label;
 
 /// A refusal: its number in the paper's table, and the record it falls on.
 #[derive(Clone, Copy, PartialEq, Eq, Debug)]
@@ -34,7 +37,7 @@ impl Refusal {
     }
 }
 
-/// Every answer of the three functions.
+/// Every answer of the four functions.
 #[derive(Clone, Copy, PartialEq, Eq, Debug)]
 pub enum Answer {
     Refused(Refusal),
@@ -43,27 +46,35 @@ pub enum Answer {
     Written,
     Holds,
     Fails,
+    HoldsOfNothing,
 }
 
 /// The verdict on evidence for a description.
 pub fn check(description: &[u8], evidence: &[u8]) -> Answer {
-    weigh(description, evidence).unwrap_or_else(Answer::Refused)
+    verdict(description, evidence).unwrap_or_else(Answer::Refused)
 }
 
-fn weigh(description: &[u8], evidence: &[u8]) -> Result<Answer, Refusal> {
+fn verdict(description: &[u8], evidence: &[u8]) -> Result<Answer, Refusal> {
     let description = Description::read(description)?;
-    match evidence::head(evidence)? {
-        Head::Graph(records) => {
-            let nodes = evidence::nodes(&records)?;
-            graph::weigh(&description, &nodes)?;
-            Ok(Answer::Inhabited)
-        }
-        Head::List(records) => {
-            let claims = evidence::claims(&records)?;
-            list::weigh(&description, &claims)?;
-            Ok(Answer::Empty)
-        }
+    let evidence = evidence::head(evidence)?;
+    weigh(&description, Label::of(&[description.root]), &evidence)?;
+    Ok(match evidence {
+        Head::Graph(_) => Answer::Inhabited,
+        Head::List(_) => Answer::Empty,
+    })
+}
+
+/// 10 to 20: a graph shows a line that has the literals wanted, a list that there is none.
+fn weigh(description: &Description, wanted: Label, evidence: &Head) -> Result<(), Refusal> {
+    match evidence {
+        Head::Graph(records) => graph::weigh(description, wanted, &evidence::nodes(records)?),
+        Head::List(records) => list::weigh(description, wanted, &evidence::closings(records)?),
     }
+}
+
+/// Judges the claim "every C is D" by one piece of evidence or by two.
+pub fn claim(description: &[u8], c: u8, d: u8, first: &[u8], second: &[u8]) -> Answer {
+    claim::judge(description, [c, d], first, second).unwrap_or_else(Answer::Refused)
 }
 
 /// Writes the line of a graph that keeps the rules; on a refusal nothing is written.
@@ -84,7 +95,7 @@ fn line_of(description: &[u8], evidence: &[u8], room: usize) -> Result<Vec<u8>, 
         return Err(Refusal::whole(9));
     };
     let nodes = evidence::nodes(&records)?;
-    graph::weigh(&description, &nodes)?;
+    graph::weigh(&description, Label::of(&[description.root]), &nodes)?;
     line::write(&description, &nodes, room)
 }
 

@@ -8,6 +8,7 @@ use Rattle.logic.specs.Refusals.{Refusal, refuse}
 use Rattle.answers.specs.declared.Tested.{Tested}
 use Rattle.answers.specs.declared.Tested.the-variants.{Fine, Refused}
 use Rattle.answers.specs.declared.Verdict as Verdicts
+use Rattle.answers.specs.declared.Claim as Claims
 use Rattle.answers.specs.declared.Written as Writings
 use Rattle.answers.specs.declared.Reading as Readings
 
@@ -29,7 +30,7 @@ fine↔ (Refused n r) (some m) e = (λ q. absurd (let z : _≡_ {A = ℕ} 0 1 = 
 
 -- ---- what is told: a word, then the refusal's number and record, or 0 and 0
 pub data Word : Type 0 where
-  REFUSED INHABITED EMPTY WRITTEN HOLDS FAILS : Word
+  REFUSED INHABITED EMPTY WRITTEN HOLDS FAILS HOLDS-OF-NOTHING : Word
 
 pub record Answer : Type 0 where
   pub word : Word
@@ -50,6 +51,12 @@ abbrev pub ofVerdict : Verdicts.Verdict → Answer
 ofVerdict Verdicts.the-variants.Inhabited = answer INHABITED none
 ofVerdict Verdicts.the-variants.Empty = answer EMPTY none
 ofVerdict (Verdicts.the-variants.Refused n r) = answer REFUSED (some (record { number = n; place = r }))
+
+abbrev pub ofClaim : Claims.Claim → Answer
+ofClaim Claims.the-variants.Holds = answer HOLDS none
+ofClaim Claims.the-variants.Fails = answer FAILS none
+ofClaim Claims.the-variants.HoldsOfNothing = answer HOLDS-OF-NOTHING none
+ofClaim (Claims.the-variants.Refused n r) = answer REFUSED (some (record { number = n; place = r }))
 
 abbrev pub ofWritten : Writings.Written → Answer
 ofWritten (Writings.the-variants.Line n) = answer WRITTEN none
@@ -89,6 +96,27 @@ pub fails↔ : (r : Readings.Reading) → (ofReading r ≡ answer FAILS none) �
 fails↔ Readings.the-variants.Fails = (λ _. refl, λ _. refl)
 fails↔ Readings.the-variants.Holds = (λ e. absurd (let w = ap (λ (x : Answer). x .word) e in let z : _≡_ {A = ℕ} 0 1 = cc in omega arith), λ e. absurd (let z : _≡_ {A = ℕ} 0 1 = cc in omega arith))
 fails↔ (Readings.the-variants.Refused n r) = (λ e. absurd (let w = ap (λ (x : Answer). x .word) e in let z : _≡_ {A = ℕ} 0 1 = cc in omega arith), λ e. absurd (let z : _≡_ {A = ℕ} 0 1 = cc in omega arith))
+
+-- the case of an answer on a claim, from what is told of it
+abbrev claimOf : Answer → Claims.Claim
+claimOf a = elim (a .word) [
+  | REFUSED ↦ Claims.the-variants.Refused (a .number) (a .place)
+  | INHABITED ↦ Claims.the-variants.Refused 0 0
+  | EMPTY ↦ Claims.the-variants.Refused 0 0
+  | WRITTEN ↦ Claims.the-variants.Refused 0 0
+  | HOLDS ↦ Claims.the-variants.Holds
+  | FAILS ↦ Claims.the-variants.Fails
+  | HOLDS-OF-NOTHING ↦ Claims.the-variants.HoldsOfNothing
+]
+
+claim-back : (v : Claims.Claim) → claimOf (ofClaim v) ≡ v
+claim-back Claims.the-variants.Holds = refl
+claim-back Claims.the-variants.Fails = refl
+claim-back Claims.the-variants.HoldsOfNothing = refl
+claim-back (Claims.the-variants.Refused n r) = refl
+
+pub claim↔ : (v w : Claims.Claim) → (ofClaim v ≡ ofClaim w) ↔ (v ≡ w)
+claim↔ v w = (λ e. sym (claim-back v) ∙ ap claimOf e ∙ claim-back w, ap ofClaim)
 
 -- a function that answers as the definition says answers a case exactly when the definition tells its word
 pub case-when : {A B : Type 0} (x y z : Answer) → x ≡ y → (x ≡ z) ↔ A → (y ≡ z) ↔ B → A ↔ B

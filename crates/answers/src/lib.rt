@@ -13,6 +13,14 @@ pub enum Verdict {
     Refused(u8, u8),
 }
 
+// The answer on a claim "every C is D".
+pub enum Claim {
+    Holds,
+    Fails,
+    HoldsOfNothing,
+    Refused(u8, u8),
+}
+
 // The answer of the line writer: the length of the line that it wrote.
 pub enum Written {
     Line(usize),

@@ -49,10 +49,10 @@ shows-list s = go (isList s)
     go false e = absurd (let z : _≡_ {A = ℕ} 0 1 = cc in omega arith)
 
 -- ---- exactly when
-pub inhabited↔ : (d s : List ℕ) → (verdict d s ≡ answer INHABITED none) ↔ (AcceptedBytes d × GraphKept (described d) s)
+pub inhabited↔ : (d s : List ℕ) → (verdict d s ≡ answer INHABITED none) ↔ (AcceptedBytes d × GraphKept (described d) (wanted (described d)) s)
 inhabited↔ d s = let w = shown↔ d s INHABITED (λ e. let z : _≡_ {A = ℕ} 0 1 = cc in omega arith) in (
-  λ e. let t = w .0 e in (t .1 .0, kept↔ (described d) s .0 (rw (shows-graph s (t .0)) at (t .1 .1))),
-  λ k. w .1 (rw (k .1 .is-graph) (refl, (k .0, kept↔ (described d) s .1 (k .1)))),
+  λ e. let t = w .0 e in (t .1 .0, kept↔ (described d) (wanted (described d)) s .0 (rw (shows-graph s (t .0)) at (t .1 .1))),
+  λ k. w .1 (rw (k .1 .is-graph) (refl, (k .0, kept↔ (described d) (wanted (described d)) s .1 (k .1)))),
 )
 
 pub empty↔ : (d s : List ℕ) → (verdict d s ≡ answer EMPTY none) ↔ (AcceptedBytes d × ListKept (described d) (wanted (described d)) s)
@@ -66,7 +66,7 @@ empty↔ d s = let w = shown↔ d s EMPTY (λ e. let z : _≡_ {A = ℕ} 0 1 = c
 
 -- so for the case that the code answers
 module _ (d s : List ℕ) (v : Verdict) (e : ofVerdict v ≡ verdict d s) where
-  pub inhabited-when : (v ≡ Inhabited) ↔ (AcceptedBytes d × GraphKept (described d) s)
+  pub inhabited-when : (v ≡ Inhabited) ↔ (AcceptedBytes d × GraphKept (described d) (wanted (described d)) s)
   inhabited-when = case-when (ofVerdict v) (verdict d s) (answer INHABITED none) e (Case.inhabited↔ v) (inhabited↔ d s)
 
   pub empty-when : (v ≡ Empty) ↔ (AcceptedBytes d × ListKept (described d) (wanted (described d)) s)

@@ -5,3 +5,5 @@ pub mod Cut
 pub mod Trials
 pub mod Others
 pub mod Steps
+pub mod ClaimExact
+pub mod ClaimTrials

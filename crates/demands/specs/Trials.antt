@@ -11,7 +11,7 @@ use Rattle.logic.specs.Sets.{has, nonempty, narrow, within, with, setOf}
 use Rattle.logic.specs.Sums.{maxBelow}
 use Rattle.counting.specs.Trees.{formed, depth, leafTest, treeTest}
 use Rattle.parts.specs.Pairs.{fills, fillsFrom}
-use Rattle.description.specs.Literals.{literal, members, adding, labelOf}
+use Rattle.description.specs.Literals.{literal, members, adding, literalSet, labelOf}
 use Rattle.description.specs.Descriptions.{entryFrom, sameEntry, ifBoth, ifEvery, ifLeast, isBoth}
 use Rattle.description.specs.Roles.{ancestor, simple}
 use Rattle.description.specs.Acceptance.{entryTest, descriptionTests}
@@ -21,7 +21,7 @@ use Rattle.graph.specs.Line.{copies, joins, direct, pairs}
 use Rattle.refutation.specs.Cells.{rowsOf, bounds, cellRole, known}
 use Rattle.refutation.specs.RecordTests.{whenCounting, ifCited, citeTest, stepTest, recordRefusal, endLabel, refutationRefusal}
 use Rattle.intake.specs.Intake.{sizesTest, partsTest, bytesTest}
-use Rattle.evidence.specs.Evidence.{headTest, nodeFormTest}
+use Rattle.evidence.specs.Evidence.{headTest, headOf, nodeFormTest}
 use Rattle.lines.specs.Lines.{lineByte}
 use Rattle.graph_check.specs.GraphEvidence.{graphTests, graphRefused}
 use Rattle.line_writer.specs.Writing.{writeRefused, writeAnswer, writeLength, bufferAfter}
@@ -30,11 +30,13 @@ use Rattle.lists.specs.Lists.{recordFormTest}
 use Rattle.lists.specs.ListEvidence.{listTests}
 use Rattle.answers.specs.Answers.{Word, REFUSED, INHABITED, EMPTY, WRITTEN, Answer}
 use Rattle.verdict.specs.Verdict.{verdict}
+use Rattle.claims.specs.Claims.{pieces, claimAnswer}
 
--- evidence is checked, or the line of a graph is written into a buffer
+-- evidence is checked, the line of a graph is written into a buffer, or a claim by the numbers of its literals is judged
 pub data Trial : Type 0 where
   checks : (description evidence : List ℕ) → Trial
   writes : (description evidence buffer : List ℕ) → Trial
+  judges : (description : List ℕ) (c d : ℕ) (first second : List ℕ) → Trial
 
 -- what is told; of the writer also the length that it answers, and the buffer afterwards
 pub data Outcome : Type 0 where
@@ -43,13 +45,14 @@ pub data Outcome : Type 0 where
 
 -- `unfolding outcome` unfolds all that these trials compute with
 unfoldable pub outcome : Trial → Outcome
-unfolding verdict bytesTest partsTest sizesTest fills fillsFrom descriptionTests entryTest entryFrom simple ancestor closure sameEntry ifBoth ifEvery ifLeast isBoth
-    headTest nodeFormTest graphTests graphRefused graphRefusal nodeRefusal labelTest bothTest edgeTest everyTest countTest total
+unfolding verdict claimAnswer pieces bytesTest partsTest sizesTest fills fillsFrom descriptionTests entryTest entryFrom simple ancestor closure sameEntry ifBoth ifEvery ifLeast isBoth
+    headTest headOf nodeFormTest graphTests graphRefused graphRefusal nodeRefusal labelTest bothTest edgeTest everyTest countTest total
     recordFormTest nodeIn treeIn countingIn stepOf listTests refutationRefusal recordRefusal whenCounting ifCited citeTest stepTest endLabel
     formed depth leafTest treeTest rowsOf bounds known cellRole writeRefused copies maxBelow lineByte joins direct pairs
-    literal members adding labelOf refuseFrom allBelow anyBelow each tabulate has nonempty narrow within with setOf
+    literal members adding literalSet labelOf refuseFrom allBelow anyBelow each tabulate has nonempty narrow within with setOf
 outcome (checks d s) = tells (verdict d s)
 outcome (writes d s old) = leaves (writeAnswer d s (length old)) (writeLength d s (length old)) (bufferAfter d s old)
+outcome (judges x c d s t) = tells (claimAnswer x c d s t)
 
 -- as it is printed
 abbrev pub told : Word → ℕ → ℕ → Answer

@@ -3,10 +3,12 @@ use Prim.Native.Nat.{ℕ, zero, suc, _+_, _*_, _/_, _%_, _^_, _≤_, _<_}
 use mathlib.Core.Path.{_≡_, refl, sym, _∙_, ap, subst}
 use mathlib.Core.Logic.{_↔_, _⊎_, inl, inr}
 use mathlib.Core.Bool.{Bool, true, false, cond, _||_}
+use mathlib.Core.List.{List, [], _∷_, List·Memᴰ·head, List·Memᴰ·tail, List·Memᴰ·cases-cons}
 use native.Mathlib.Omega.{arith}
 use native.Mathlib.Decide.{decLe}
 use lib.Dec.{eqb, ltb}
 use Rattle.logic.specs.Tests.{So, so-eqb, eqb-so, so-false, or-l, or-r, or-cases, same-test, eqb↔}
+use Rattle.logic.specs.Lists.{_∈_, each, each↔}
 use Rattle.logic.specs.Sets.{has, narrow, within, with, setOf}
 use Rattle.logic.specs.SetLaws.{no-member, narrow↔, within↔, with↔, setOf↔}
 
@@ -44,6 +46,11 @@ members n l = has n (code l)
 -- the label N with the literal l put in, as a number
 unfoldable pub adding : ℕ → Literal → ℕ
 adding N l = with N (code l)
+
+-- the set of the literals of a list, as a number
+unfoldable pub literalSet : List Literal → ℕ
+literalSet [] = 0
+literalSet (l ∷ W) = adding (literalSet W) l
 
 -- L with l put in
 abbrev pub plus : Label → Literal → Label
@@ -127,6 +134,23 @@ unfolding members adding
 members-adding N l m = same-test _ _
     (λ h. plus↔ (λ m. has N (code m)) l m .1 (elim (with↔ N (code l) (code m) .0 h) [ inl u ↦ inl u | inr e ↦ inr (code-injective l m (sym e)) ]))
     (λ h. with↔ N (code l) (code m) .1 (elim (plus↔ (λ m. has N (code m)) l m .0 h) [ inl u ↦ inl u | inr e ↦ inr (ap code (sym e)) ]))
+
+pub adding↔ : (N : ℕ) (l m : Literal) → So (members (adding N l) m) ↔ (So (members N m) ⊎ (l ≡ m))
+adding↔ N l m = rw (members-adding N l m) (plus↔ (members N) l m)
+
+pub literal-set↔ : (W : List Literal) (l : Literal) → So (members (literalSet W) l) ↔ (l ∈ W)
+unfolding literalSet
+literal-set↔ [] l = (λ h. absurd (no-literal l h), λ m. elim m [ ])
+literal-set↔ (x ∷ W) l = (
+  λ h. elim (adding↔ (literalSet W) x l .0 h) [ inl u ↦ List·Memᴰ·tail (literal-set↔ W l .0 u) | inr e ↦ List·Memᴰ·head (sym e) ],
+  λ h. adding↔ (literalSet W) x l .1 (elim (List·Memᴰ·cases-cons h) [ inl e ↦ inr (sym e) | inr t ↦ inl (literal-set↔ W l .1 t) ]),
+)
+
+-- a label has every literal of a list exactly if their set lies within it
+pub within-set : (W : List Literal) (N : ℕ) → within (literalSet W) N ≡ each W (members N)
+within-set W N = same-test _ _
+    (λ h. each↔ W (members N) .1 (λ l m. within-members↔ (literalSet W) N .0 h l (literal-set↔ W l .1 m)))
+    (λ h. within-members↔ (literalSet W) N .1 (λ l u. each↔ W (members N) .0 h l (literal-set↔ W l .0 u)))
 
 -- the number of a set of literals of n entries
 unfoldable pub labelOf : ℕ → Label → ℕ

@@ -1,4 +1,4 @@
-// Runs the rows of each data file: a description with evidence is checked, the line of a graph is written, or a line is read.
+// Runs the rows of each data file: a description with evidence is checked, a claim is judged, the line of a graph is written, or a line is read.
 // A row's fields stand between tabs, bytes are hexadecimal digits, the last field is the answer that it expects; a remark follows '#'.
 // Prints for each file how often each answer was right, and each row whose answer was another.
 mod rows;
@@ -8,6 +8,7 @@ ghost use mathlib.Core.Path.{_≡_};
 ghost use lib.ListN.{length};
 use libc::STDOUT_FILENO;
 use rows::check_row;
+use rows::claim_row;
 use rows::read_row;
 use rows::write_row;
 use tally::Answer;
@@ -23,6 +24,7 @@ use vector_rows::mark_from;
 // What the rows of a file ask.
 enum Kind {
     Check,
+    Claim,
     Write,
     Read,
 }
@@ -30,6 +32,7 @@ enum Kind {
 fn answer_to(kind: Kind, line: &[u8]) -> Answer {
     match kind {
         Kind::Check => check_row(line),
+        Kind::Claim => claim_row(line),
         Kind::Write => write_row(line),
         Kind::Read => read_row(line),
     }
@@ -39,6 +42,7 @@ fn answer_to(kind: Kind, line: &[u8]) -> Answer {
 fn expected_of(kind: Kind, line: &[u8]) -> Answer {
     match kind {
         Kind::Check => expected(field(line, 1, b'\t')),
+        Kind::Claim => expected(field(line, 5, b'\t')),
         Kind::Write => expected(field(line, 3, b'\t')),
         Kind::Read => expected(field(line, 2, b'\t')),
     }
@@ -103,6 +107,9 @@ fn main() {
     run_file(b"check_lists", Kind::Check);
     run_file(b"check_lists_trials", Kind::Check);
     run_file(b"check_lists_worst", Kind::Check);
+    run_file(b"claims", Kind::Claim);
+    run_file(b"claims_trials", Kind::Claim);
+    run_file(b"claims_worst", Kind::Claim);
     run_file(b"write", Kind::Write);
     run_file(b"write_trials", Kind::Write);
     run_file(b"write_worst", Kind::Write);

@@ -2,11 +2,13 @@
 use super::tally::Answer;
 use super::tally::expected;
 use super::tally::line_digits;
+use super::tally::of_claim;
 use super::tally::of_reading;
 use super::tally::of_verdict;
 use super::tally::of_written;
 use super::tally::same;
 use super::tally::told;
+use claims::check_claim;
 use line_reader::read_interpretation;
 use line_writer::write_interpretation;
 use report::description_part;
@@ -27,6 +29,24 @@ pub(crate) fn check_row(line: &[u8]) -> Answer {
     let n = decode(field(line, 0, b'\t'), &mut space);
     let input = &space[..n];
     of_verdict(check_evidence(description_part(input), evidence_part(input)))
+}
+
+// A literal's number.
+fn literal(digits: &[u8]) -> u8 {
+    (number(digits) % 256) as u8
+}
+
+// A row of claims: a description, the numbers of C and D, and two pieces of evidence.
+pub(crate) fn claim_row(line: &[u8]) -> Answer {
+    let mut description = [0; 512];
+    let n = decode(field(line, 0, b'\t'), &mut description);
+    let c = literal(field(line, 1, b'\t'));
+    let d = literal(field(line, 2, b'\t'));
+    let mut first = input_space();
+    let m = decode(field(line, 3, b'\t'), &mut first);
+    let mut second = [0; 16384];
+    let k = decode(field(line, 4, b'\t'), &mut second);
+    of_claim(check_claim(&description[..n], c, d, &first[..m], &second[..k]))
 }
 
 // A row of the reader: a description and a line.

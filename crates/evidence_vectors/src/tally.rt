@@ -1,4 +1,5 @@
 // Answers, how they are printed, and how often each was right.
+use answers::Claim;
 use answers::Reading;
 use answers::Verdict;
 use answers::Written;
@@ -7,7 +8,7 @@ use parts::byte;
 use vector_rows::field;
 use vector_rows::number;
 
-// An answer: the first letter of its word, then a refusal's number and record, or a line's length.
+// An answer: the first letter of its word, or 'V' for HOLDS OF NOTHING, then a refusal's number and record, or a line's length.
 pub(crate) struct Answer {
     pub(crate) word: u8,
     pub(crate) number: usize,
@@ -34,6 +35,15 @@ pub(crate) fn of_verdict(v: Verdict) -> Answer {
     }
 }
 
+pub(crate) fn of_claim(v: Claim) -> Answer {
+    match v {
+        Claim::Holds => told(b'H', 0, 0),
+        Claim::Fails => told(b'F', 0, 0),
+        Claim::HoldsOfNothing => told(b'V', 0, 0),
+        Claim::Refused(number, place) => refusal(number, place),
+    }
+}
+
 pub(crate) fn of_written(w: Written) -> Answer {
     match w {
         Written::Line(n) => told(b'L', n, 0),
@@ -57,12 +67,24 @@ pub(crate) fn line_digits(text: &[u8]) -> &[u8] {
     &text[..0]
 }
 
+// Whether the words are HOLDS OF NOTHING.
+fn of_nothing(text: &[u8]) -> bool {
+    (byte(text, 0) == b'H') & (byte(text, 6) == b'O')
+}
+
 // The answer that a row expects: a word, with the two numbers of a refusal, or with the bytes of a line.
 pub(crate) fn expected(text: &[u8]) -> Answer {
     let word = byte(text, 0);
     if word == b'L' {
         let hex = line_digits(text);
         return told(word, hex.len() / 2, 0);
+    }
+    if of_nothing(text) {
+        return told(
+            b'V',
+            number(field(text, 3, b' ')),
+            number(field(text, 4, b' ')),
+        );
     }
     told(
         word,
@@ -91,6 +113,9 @@ fn print_word(word: u8) {
         }
         b'F' => {
             io::write_all(STDOUT_FILENO, b"FAILS");
+        }
+        b'V' => {
+            io::write_all(STDOUT_FILENO, b"HOLDS OF NOTHING");
         }
         b'R' => {
             io::write_all(STDOUT_FILENO, b"REFUSED");

@@ -5,14 +5,13 @@ use mathlib.Core.List.{List}
 use mathlib.Core.Option.{Option, none}
 use native.Mathlib.Omega.{arith}
 use borrow.Author.Tests.{ne-eqb, le-leb}
-use lib.Dec.{eqb}
 use lib.ListN.{length}
 use Rattle.logic.specs.Tests.{and-l}
 use Rattle.logic.specs.Refusals.{unless, unless↔, unless-then, refuse, refuseFrom, records↔, records-then}
 use Rattle.logic.specs.Bounded.{allBelow}
 use Rattle.logic.specs.Lists.{each}
 use Rattle.parts.specs.Numbers.{upTo, up-to-all}
-use Rattle.description.specs.Literals.{Literal, members}
+use Rattle.description.specs.Literals.{Literal, members, literalSet}
 use Rattle.description.specs.Descriptions.{Description, wanted}
 use Rattle.description.specs.Roles.{anc-in}
 use Rattle.description.specs.Acceptance.{Accepted}
@@ -24,23 +23,23 @@ use Rattle.evidence.specs.Evidence.{recordCount, HeadOk, headTest, head↔, rec
 use Rattle.evidence.specs.InPlace.{record-length, label-there, edges-there, edges-few}
 use Rattle.graph.specs.Graphs.{labelAt, nodeAt, edgesAt, wantedAt}
 use Rattle.graph.specs.GraphTests.{storedGraph, labelTest, bothTest, edgeTest, nodeRefusal, nodeForm, graphRefusal}
-use Rattle.nodes.specs.NodeSteps.{entryCount, labelCode, labelTestOf, isFirst, label-is, bothAt, both-is}
+use Rattle.nodes.specs.NodeSteps.{entryCount, labelCode, labelTestOf, label-is, rootSet, root-is, bothAt, both-is}
 use Rattle.edges.specs.EdgeSteps.{edgesCode, edges-are}
 use Rattle.fillers.specs.FillerLaws.{everys-are, counts-are}
 use Rattle.logic.specs.Refusals.{refuse-then, records-later, records-cong}
 use Rattle.graph_check.specs.GraphEvidence.{graphHead, formAt, graphTests}
-use Rattle.graph_check.specs.GraphSteps.{formOf, nodeCode, recordCode, recordsCode, graphCode, tablesCode}
+use Rattle.graph_check.specs.GraphSteps.{formOf, wantedOf, nodeCode, recordCode, recordsCode, graphCode, tablesCode}
 
 -- 11 to 15, of record x
-nodeAtTest : Description → List ℕ → ℕ → Option ℕ
-nodeAtTest D s x = let G = graphIn s in nodeRefusal storedGraph D (length G) (labelAt G) (wantedAt (wanted D) x) (nodeAt G x .label) (edgesAt G x)
+nodeAtTest : Description → List Literal → List ℕ → ℕ → Option ℕ
+nodeAtTest D W s x = let G = graphIn s in nodeRefusal storedGraph D (length G) (labelAt G) (wantedAt W x) (nodeAt G x .label) (edgesAt G x)
 
 -- records of the form have at most 32 edges, so the graph's own test 10 passes
-rules-on : (D : Description) (s : List ℕ) → ((x : ℕ) → x < recordCount s → NodeForm (length (recordAt s x)))
-    → graphRefusal storedGraph D (wanted D) (graphIn s) ≡ refuseFrom (nodeAtTest D s) (recordCount s) 0 none
+rules-on : (D : Description) (W : List Literal) (s : List ℕ) → ((x : ℕ) → x < recordCount s → NodeForm (length (recordAt s x)))
+    → graphRefusal storedGraph D W (graphIn s) ≡ refuseFrom (nodeAtTest D W s) (recordCount s) 0 none
 unfolding graphRefusal nodeAtTest
-rules-on D s formed = ap (λ m. refuseFrom form m 0 (refuseFrom (nodeAtTest D s) m 0 none)) (graph-size s)
-    ∙ records-then form (recordCount s) 0 (refuseFrom (nodeAtTest D s) (recordCount s) 0 none) (records↔ form (recordCount s) none .1 (few, refl))
+rules-on D W s formed = ap (λ m. refuseFrom form m 0 (refuseFrom (nodeAtTest D W s) m 0 none)) (graph-size s)
+    ∙ records-then form (recordCount s) 0 (refuseFrom (nodeAtTest D W s) (recordCount s) 0 none) (records↔ form (recordCount s) none .1 (few, refl))
   where
     form : ℕ → Option ℕ
     form x = nodeForm storedGraph (edgesAt (graphIn s) x)
@@ -48,12 +47,13 @@ rules-on D s formed = ap (λ m. refuseFrom form m 0 (refuseFrom (nodeAtTest D s)
     few : (x : ℕ) → x < recordCount s → form x ≡ none
     few x h = let z : length (edgesAt (graphIn s) x) ≤ 32 = rw (edges-size s x h) (formed x h .1 .1) in rw (le-leb _ _ z) refl
 
-first-is : (x : ℕ) → eqb x 0 ≡ isFirst x
-first-is zero = refl
-first-is (suc x) = ne-eqb (suc x) 0 (λ e. omega arith)
+wanted-is : (W : List Literal) (x : ℕ) → wantedOf (literalSet W) x ≡ literalSet (wantedAt W x)
+unfolding literalSet
+wanted-is W zero = refl
+wanted-is W (suc x) = rw (ne-eqb (suc x) 0 (λ e. omega arith)) refl
 
 module _ (rs cs qs a : List ℕ) (anc : AncestorsOf rs a) (few : length rs / 3 ≤ 16) (table : length cs / 6 ≤ 32) (acc : Accepted (describe rs cs qs))
-    (s : List ℕ) (head : HeadOk s) where
+    (W : List Literal) (s : List ℕ) (head : HeadOk s) where
   abbrev D : Description
   D = describe rs cs qs
 
@@ -67,7 +67,7 @@ module _ (rs cs qs a : List ℕ) (anc : AncestorsOf rs a) (few : length rs / 3 �
     labels : (y : ℕ) → y < n → (l : Literal) → labelAt (graphIn s) y l ≡ members (labelOf s y) l
     labels y h l = ap (λ N. members N l) (label-there s head formed y h)
 
-    node-is : (x : ℕ) → x < n → recordCode rs cs qs a s n x ≡ nodeAtTest D s x
+    node-is : (x : ℕ) → x < n → recordCode rs cs qs a (literalSet W) s n x ≡ nodeAtTest D W s x
     unfolding nodeCode nodeRefusal nodeAtTest
     node-is x h = rw (label-there s head formed x h, edges-there s head formed x h, graph-size s) (
         unless-then _ _ 11 _ _ label (λ _.
@@ -76,8 +76,8 @@ module _ (rs cs qs a : List ℕ) (anc : AncestorsOf rs a) (few : length rs / 3 �
         unless-then _ _ 14 _ _ (everys-are rs cs qs s table n (labelAt (graphIn s)) labels (labelOf s x) (edgesPart s x) (edges-few s head formed x h) p a anc few acc) (λ _.
         unless-then _ _ 15 _ _ (counts-are rs cs qs s table n (labelAt (graphIn s)) labels (labelOf s x) (edgesPart s x) (edges-few s head formed x h) p) (λ _. refl))))))
       where
-        label : labelTestOf cs qs (labelOf s x) (eqb x 0) ≡ labelTest D (wantedAt (wanted D) x) (labelOf s x)
-        label = ap₂ (λ k b. labelCode qs k (labelOf s x) b) (up-to-all 32 (length cs / 6) table) (first-is x) ∙ label-is rs cs qs (labelOf s x) x
+        label : labelTestOf cs qs (labelOf s x) (wantedOf (literalSet W) x) ≡ labelTest D (wantedAt W x) (labelOf s x)
+        label = ap₂ (λ k M. labelCode qs k (labelOf s x) M) (up-to-all 32 (length cs / 6) table) (wanted-is W x) ∙ label-is rs cs qs (wantedAt W x) (labelOf s x)
 
         both : allBelow (entryCount cs) (bothAt cs (labelOf s x)) ≡ bothTest D (members (labelOf s x))
         both = ap (λ k. allBelow k (bothAt cs (labelOf s x))) (up-to-all 32 (length cs / 6) table) ∙ both-is rs cs qs (labelOf s x)
@@ -86,21 +86,24 @@ module _ (rs cs qs a : List ℕ) (anc : AncestorsOf rs a) (few : length rs / 3 �
         edges = ap (λ k. edgesCode a k n (edgesPart s x)) (up-to-all 16 (length rs / 3) few)
             ∙ edges-are rs cs qs a anc few (λ r q. anc-in D (acc .parents-in) r q) n (edgesPart s x) (edges-few s head formed x h)
 
-    records-are : refuseFrom (recordCode rs cs qs a s n) n 0 none ≡ graphRefusal storedGraph D (wanted D) (graphIn s)
-    records-are = records-cong (recordCode rs cs qs a s n) (nodeAtTest D s) n 0 none (λ x _ h. node-is x (omega arith)) ∙ sym (rules-on D s formed)
+    records-are : refuseFrom (recordCode rs cs qs a (literalSet W) s n) n 0 none ≡ graphRefusal storedGraph D W (graphIn s)
+    records-are = records-cong (recordCode rs cs qs a (literalSet W) s n) (nodeAtTest D W s) n 0 none (λ x _ h. node-is x (omega arith)) ∙ sym (rules-on D W s formed)
 
-  forms-are : recordsCode rs cs qs a s n ≡ refuseFrom (formAt s) n 0 (graphRefusal storedGraph D (wanted D) (graphIn s))
+  forms-are : recordsCode rs cs qs a (literalSet W) s n ≡ refuseFrom (formAt s) n 0 (graphRefusal storedGraph D W (graphIn s))
   unfolding recordsCode
   forms-are = records-cong (formOf s) (formAt s) n 0 _ (λ x _ h. form-is x (omega arith))
       ∙ records-later (formAt s) n 0 _ _ (λ pass. records-are (λ x h. node-form↔ _ .0 (unless↔ _ 10 none .0 (pass x (omega arith) (omega arith)) .0)))
 
 -- 9 to 15, for accepted parts
-graph-is : (rs cs qs a s : List ℕ) → AncestorsOf rs a → partsTest rs cs qs ≡ none → graphCode rs cs qs a s ≡ graphTests (describe rs cs qs) s
+pub graph-is : (rs cs qs a : List ℕ) (W : List Literal) (s : List ℕ) → AncestorsOf rs a → partsTest rs cs qs ≡ none
+    → graphCode rs cs qs a (literalSet W) s ≡ graphTests (describe rs cs qs) W s
 unfolding graphCode graphTests
-graph-is rs cs qs a s anc e = let k = parts-accepted rs cs qs e in
-    refuse-then 0 (unless (graphHead s) 9 none) _ _ (λ h. forms-are rs cs qs a anc (k .0) (k .1) (k .2) s (head↔ s .0 (and-l (headTest s) _ (unless↔ (graphHead s) 9 none .0 h .0))))
+graph-is rs cs qs a W s anc e = let k = parts-accepted rs cs qs e in
+    refuse-then 0 (unless (graphHead s) 9 none) _ _ (λ h. forms-are rs cs qs a anc (k .0) (k .1) (k .2) W s (head↔ s .0 (and-l (headTest s) _ (unless↔ (graphHead s) 9 none .0 h .0))))
 
--- 2 to 15
-pub tables-code-is : (rs cs qs a s : List ℕ) → AncestorsOf rs a → tablesCode rs cs qs a s ≡ refuse 0 (partsTest rs cs qs) (graphTests (describe rs cs qs) s)
-tables-code-is rs cs qs a s anc = ap (λ o. refuse 0 o (graphCode rs cs qs a s)) (tables-are rs cs qs a anc)
-    ∙ refuse-then 0 (partsTest rs cs qs) _ _ (graph-is rs cs qs a s anc)
+-- 2 to 15, of a plain question
+pub tables-code-is : (rs cs qs a s : List ℕ) → AncestorsOf rs a
+    → tablesCode rs cs qs a s ≡ refuse 0 (partsTest rs cs qs) (graphTests (describe rs cs qs) (wanted (describe rs cs qs)) s)
+tables-code-is rs cs qs a s anc = ap (λ o. refuse 0 o (graphCode rs cs qs a (rootSet qs) s)) (tables-are rs cs qs a anc)
+    ∙ refuse-then 0 (partsTest rs cs qs) _ _ (λ e. let k = parts-accepted rs cs qs e in
+    ap (λ M. graphCode rs cs qs a M s) (root-is rs cs qs (k .1) (k .2 .root-in)) ∙ graph-is rs cs qs a (wanted (describe rs cs qs)) s anc e)

@@ -1,26 +1,26 @@
 -- Tests 9 to 15 as the code makes them, for parts and evidence of every length; for an accepted description they are those of GraphEvidence.
 use Prim.Native.Nat.{ℕ, _/_}
-use mathlib.Core.Path.{_≡_, refl, sym, ap}
-use mathlib.Core.Bool.{Bool, true, false}
+use mathlib.Core.Path.{_≡_, refl, sym}
+use mathlib.Core.Bool.{Bool, true, false, cond}
 use mathlib.Core.List.{List}
 use mathlib.Core.Option.{Option, none, some}
+use borrow.Author.Tests.{ne-eqb}
 use lib.Dec.{eqb}
 use lib.ListN.{length}
-use Rattle.logic.specs.Refusals.{Refusal, unless, refuse, refuse↔, refuseFrom}
+use Rattle.logic.specs.Refusals.{Refusal, unless, refuse, refuseFrom, records-then, records-refused}
 use Rattle.logic.specs.Bounded.{allBelow}
 use Rattle.parts.specs.Numbers.{upTo}
 use Rattle.parts.specs.Pairs.{lengthAt}
 use Rattle.evidence.specs.Evidence.{recordCount, edgesPart, nodeFormTest, labelOf}
-use Rattle.nodes.specs.NodeSteps.{entryCount, labelTestOf, bothAt}
+use Rattle.nodes.specs.NodeSteps.{entryCount, labelTestOf, rootSet, bothAt}
 use Rattle.edges.specs.EdgeSteps.{edgesCode}
 use Rattle.labels.specs.declared.Label.{Label}
 use Rattle.fillers.specs.FillerSteps.{everysCode, countsCode}
 use Rattle.fillers.specs.Sources.{SourcesOf, everysWith, everys-with}
 use Rattle.answers.specs.declared.Tested.the-variants.{Refused}
-use Rattle.answers.specs.Answers.{refusalOf, wholly}
+use Rattle.answers.specs.Answers.{refusalOf}
 use Rattle.intake.specs.Steps.{tablesTest}
 use Rattle.graph_check.specs.GraphEvidence.{graphHead}
-use Rattle.logic.specs.Refusals.{refuse-some, records-then, records-refused}
 
 -- 10, of record i, by the length that its pair gives
 abbrev pub formCode : List ℕ → ℕ → Bool
@@ -29,82 +29,85 @@ formCode s i = nodeFormTest (lengthAt s 2 i)
 abbrev pub formOf : List ℕ → ℕ → Option ℕ
 formOf s i = unless (formCode s i) 10 none
 
--- 11 to 15, of record i with label N and edges es, in a graph of n records
-unfoldable pub nodeCode : List ℕ → List ℕ → List ℕ → List ℕ → List ℕ → ℕ → ℕ → ℕ → List ℕ → Option ℕ
-nodeCode rs cs qs a s n i N es =
-    unless (labelTestOf cs qs N (eqb i 0)) 11
+-- what is wanted of record i, where the set M is wanted of record 0
+abbrev pub wantedOf : ℕ → ℕ → ℕ
+wantedOf M i = cond (eqb i 0) M 0
+
+-- 11 to 15, of a record with label N and edges es, of which the set w is wanted, in a graph of n records
+unfoldable pub nodeCode : List ℕ → List ℕ → List ℕ → List ℕ → ℕ → List ℕ → ℕ → ℕ → List ℕ → Option ℕ
+nodeCode rs cs qs a w s n N es =
+    unless (labelTestOf cs qs N w) 11
     (unless (allBelow (entryCount cs) (bothAt cs N)) 12
     (unless (edgesCode a (upTo 16 (length rs / 3)) n es) 13
     (unless (everysCode rs cs s a N es) 14
     (unless (countsCode cs s N es) 15 none))))
 
-abbrev pub recordCode : List ℕ → List ℕ → List ℕ → List ℕ → List ℕ → ℕ → ℕ → Option ℕ
-recordCode rs cs qs a s n i = nodeCode rs cs qs a s n i (labelOf s i) (edgesPart s i)
+abbrev pub recordCode : List ℕ → List ℕ → List ℕ → List ℕ → ℕ → List ℕ → ℕ → ℕ → Option ℕ
+recordCode rs cs qs a M s n i = nodeCode rs cs qs a (wantedOf M i) s n (labelOf s i) (edgesPart s i)
 
 -- 10 to 15
-unfoldable pub recordsCode : List ℕ → List ℕ → List ℕ → List ℕ → List ℕ → ℕ → Option Refusal
-recordsCode rs cs qs a s n = refuseFrom (formOf s) n 0 (refuseFrom (recordCode rs cs qs a s n) n 0 none)
+unfoldable pub recordsCode : List ℕ → List ℕ → List ℕ → List ℕ → ℕ → List ℕ → ℕ → Option Refusal
+recordsCode rs cs qs a M s n = refuseFrom (formOf s) n 0 (refuseFrom (recordCode rs cs qs a M s n) n 0 none)
 
 -- 9 to 15
-unfoldable pub graphCode : List ℕ → List ℕ → List ℕ → List ℕ → List ℕ → Option Refusal
-graphCode rs cs qs a s = refuse 0 (unless (graphHead s) 9 none) (recordsCode rs cs qs a s (recordCount s))
+unfoldable pub graphCode : List ℕ → List ℕ → List ℕ → List ℕ → ℕ → List ℕ → Option Refusal
+graphCode rs cs qs a M s = refuse 0 (unless (graphHead s) 9 none) (recordsCode rs cs qs a M s (recordCount s))
 
--- 2 to 15
+-- 2 to 15, of a plain question
 abbrev pub tablesCode : List ℕ → List ℕ → List ℕ → List ℕ → List ℕ → Option Refusal
-tablesCode rs cs qs a s = refuse 0 (tablesTest rs cs qs a) (graphCode rs cs qs a s)
+tablesCode rs cs qs a s = refuse 0 (tablesTest rs cs qs a) (graphCode rs cs qs a (rootSet qs) s)
 
 -- ---- laws for the code
-module _ (rs cs qs a s : List ℕ) (n i N : ℕ) (es : List ℕ) where
-  abbrev node : Option Refusal
-  node = refuse i (nodeCode rs cs qs a s n i N es) none
+pub wanted-first : (M i : ℕ) → i ≡ 0 → M ≡ wantedOf M i
+wanted-first M i e = rw e refl
 
-  pub stops-11 : labelTestOf cs qs N (eqb i 0) ≡ false → refusalOf (Refused 11 i) ≡ node
+pub wanted-later : (M i : ℕ) → (i ≡ 0 → ⊥) → 0 ≡ wantedOf M i
+wanted-later M i e = rw (ne-eqb i 0 e) refl
+
+module _ (rs cs qs a : List ℕ) (w : ℕ) (s : List ℕ) (n i N : ℕ) (es : List ℕ) where
+  abbrev node : Option Refusal
+  node = refuse i (nodeCode rs cs qs a w s n N es) none
+
+  pub stops-11 : labelTestOf cs qs N w ≡ false → refusalOf (Refused 11 i) ≡ node
   unfolding nodeCode
   stops-11 e = rw e refl
 
-  pub stops-12 : labelTestOf cs qs N (eqb i 0) ≡ true → allBelow (entryCount cs) (bothAt cs N) ≡ false → refusalOf (Refused 12 i) ≡ node
+  pub stops-12 : labelTestOf cs qs N w ≡ true → allBelow (entryCount cs) (bothAt cs N) ≡ false → refusalOf (Refused 12 i) ≡ node
   unfolding nodeCode
   stops-12 p e = rw (p, e) refl
 
-  pub stops-13 : labelTestOf cs qs N (eqb i 0) ≡ true → allBelow (entryCount cs) (bothAt cs N) ≡ true → edgesCode a (upTo 16 (length rs / 3)) n es ≡ false
+  pub stops-13 : labelTestOf cs qs N w ≡ true → allBelow (entryCount cs) (bothAt cs N) ≡ true → edgesCode a (upTo 16 (length rs / 3)) n es ≡ false
       → refusalOf (Refused 13 i) ≡ node
   unfolding nodeCode
   stops-13 p q e = rw (p, q, e) refl
 
   -- 14 with the table of sources
-  pub goes-on : (src : List Label) → SourcesOf rs cs a src → labelTestOf cs qs N (eqb i 0) ≡ true → allBelow (entryCount cs) (bothAt cs N) ≡ true
+  pub goes-on : (src : List Label) → SourcesOf rs cs a src → labelTestOf cs qs N w ≡ true → allBelow (entryCount cs) (bothAt cs N) ≡ true
       → edgesCode a (upTo 16 (length rs / 3)) n es ≡ true → refuse i (unless (everysWith cs s src N es) 14 (unless (countsCode cs s N es) 15 none)) none ≡ node
   unfolding nodeCode
   goes-on src T p q r = rw (everys-with rs cs a N s es src T, p, q, r) refl
 
--- the record's label and edges, as they are read
-pub record-read : (rs cs qs a s : List ℕ) (n i N : ℕ) (es : List ℕ) → N ≡ labelOf s i → es ≡ edgesPart s i
-    → refuse i (nodeCode rs cs qs a s n i N es) none ≡ refuse i (recordCode rs cs qs a s n i) none
-record-read rs cs qs a s n i N es p q = rw (p, q) refl
+-- what is wanted of the record, its label and its edges, as they are read
+pub record-read : (rs cs qs a : List ℕ) (M w : ℕ) (s : List ℕ) (n i N : ℕ) (es : List ℕ) → w ≡ wantedOf M i → N ≡ labelOf s i → es ≡ edgesPart s i
+    → refuse i (nodeCode rs cs qs a w s n N es) none ≡ refuse i (recordCode rs cs qs a M s n i) none
+record-read rs cs qs a M w s n i N es o p q = rw (o, p, q) refl
 
 -- 10, then 11 to 15
-module _ (rs cs qs a s : List ℕ) (n : ℕ) where
-  pub forms-stop : (z : Refusal) → refuseFrom (formOf s) n 0 none ≡ some z → some z ≡ recordsCode rs cs qs a s n
+module _ (rs cs qs a : List ℕ) (M : ℕ) (s : List ℕ) (n : ℕ) where
+  pub forms-stop : (z : Refusal) → refuseFrom (formOf s) n 0 none ≡ some z → some z ≡ recordsCode rs cs qs a M s n
   unfolding recordsCode
-  forms-stop z e = sym (records-refused (formOf s) n 0 (refuseFrom (recordCode rs cs qs a s n) n 0 none) z e)
+  forms-stop z e = sym (records-refused (formOf s) n 0 (refuseFrom (recordCode rs cs qs a M s n) n 0 none) z e)
 
-  pub forms-on : refuseFrom (formOf s) n 0 none ≡ none → refuseFrom (recordCode rs cs qs a s n) n 0 none ≡ recordsCode rs cs qs a s n
+  pub forms-on : refuseFrom (formOf s) n 0 none ≡ none → refuseFrom (recordCode rs cs qs a M s n) n 0 none ≡ recordsCode rs cs qs a M s n
   unfolding recordsCode
-  forms-on e = sym (records-then (formOf s) n 0 (refuseFrom (recordCode rs cs qs a s n) n 0 none) e)
+  forms-on e = sym (records-then (formOf s) n 0 (refuseFrom (recordCode rs cs qs a M s n) n 0 none) e)
 
 -- 9, then those
-module _ (rs cs qs a s : List ℕ) where
-  pub head-stop : graphHead s ≡ false → refusalOf (Refused 9 0) ≡ graphCode rs cs qs a s
+module _ (rs cs qs a : List ℕ) (M : ℕ) (s : List ℕ) where
+  pub head-stop : graphHead s ≡ false → refusalOf (Refused 9 0) ≡ graphCode rs cs qs a M s
   unfolding graphCode
   head-stop e = rw e refl
 
-  pub head-on : (n : ℕ) → graphHead s ≡ true → n ≡ recordCount s → recordsCode rs cs qs a s n ≡ graphCode rs cs qs a s
+  pub head-on : (n : ℕ) → graphHead s ≡ true → n ≡ recordCount s → recordsCode rs cs qs a M s n ≡ graphCode rs cs qs a M s
   unfolding graphCode
   head-on n e q = rw (e, q) refl
-
-  -- 2 to 8, then those
-  pub tables-stop : (z : Refusal) → wholly (tablesTest rs cs qs a) ≡ some z → some z ≡ tablesCode rs cs qs a s
-  tables-stop z e = sym (refuse-some 0 (tablesTest rs cs qs a) (graphCode rs cs qs a s) z e)
-
-  pub tables-on : wholly (tablesTest rs cs qs a) ≡ none → graphCode rs cs qs a s ≡ tablesCode rs cs qs a s
-  tables-on e = sym (ap (λ o. refuse 0 o (graphCode rs cs qs a s)) (refuse↔ 0 (tablesTest rs cs qs a) none .0 e .0))

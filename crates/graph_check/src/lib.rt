@@ -5,7 +5,7 @@ ghost use Rattle.logic.specs.Refusals.{refuse, refuseFrom};
 ghost use Rattle.labels.specs.Labels.{valueOf};
 ghost use Rattle.answers.specs.Answers.{refusalOf};
 ghost use Rattle.fillers.specs.Sources.{SourcesOf};
-ghost use Rattle.graph_check.specs.GraphSteps.{formCode, formOf, nodeCode, recordCode, recordsCode, graphCode, tablesCode};
+ghost use Rattle.graph_check.specs.GraphSteps.{formCode, formOf, wantedOf, nodeCode, recordCode, recordsCode, graphCode, tablesCode};
 use answers::Tested;
 use edges::edges_ok;
 use evidence::Head;
@@ -19,6 +19,7 @@ use intake::test_tables;
 use labels::Label;
 use nodes::boths_ok;
 use nodes::label_ok;
+use nodes::root_set;
 use parts::read2;
 
 // Test 10 of record `i`.
@@ -42,13 +43,26 @@ fn test_forms(s: &[u8], n: u8) -> Tested
     Tested::Fine
 }
 
-// Rules 11 to 15 of record `i`, whose label is `x` and whose edges are `es`, in a graph of `n` records, with the table of sources.
+// What is wanted of record `i`: the literals `want` of record 0, and nothing of any other.
+fn wanted_of(want: Label, i: u8) -> Label
+    ensures { λ r. ⌜ valueOf r ≡ wantedOf (valueOf want) i ⌝ }
+{
+    if i == 0 {
+        want
+    } else {
+        Label { high: 0, low: 0 }
+    }
+}
+
+// Rules 11 to 15 of record `i`, of which `want` is wanted, whose label is `x` and whose edges are `es`, in a graph of `n` records,
+// with the table of sources.
 fn test_node(
     rs: &[u8],
     cs: &[u8],
     qs: &[u8],
     a: [u16; 16],
     src: [Label; 32],
+    want: Label,
     s: &[u8],
     n: u8,
     i: u8,
@@ -56,9 +70,9 @@ fn test_node(
     es: &[u8],
 ) -> Tested
     requires { ⌜ SourcesOf (now rs) (now cs) a src ⌝ }
-    ensures { λ r. ⌜ refusalOf r ≡ refuse i (nodeCode (now (rs .entry)) (now (cs .entry)) (now (qs .entry)) a (now (s .entry)) n i (valueOf x) (now (es .entry))) none ⌝ }
+    ensures { λ r. ⌜ refusalOf r ≡ refuse i (nodeCode (now (rs .entry)) (now (cs .entry)) (now (qs .entry)) a (valueOf want) (now (s .entry)) n (valueOf x) (now (es .entry))) none ⌝ }
 {
-    if !label_ok(cs, qs, x, i == 0) {
+    if !label_ok(cs, qs, x, want) {
         return Tested::Refused(11, i);
     }
     if !boths_ok(cs, x) {
@@ -70,19 +84,20 @@ fn test_node(
     test_fillers(cs, src, s, i, x, es)
 }
 
-// Rules 11 to 15 of record `i`, in a graph of `n` records, with the table of sources.
+// The same, with the record read; here and below, `want` is what is wanted of record 0.
 fn test_record(
     rs: &[u8],
     cs: &[u8],
     qs: &[u8],
     a: [u16; 16],
     src: [Label; 32],
+    want: Label,
     s: &[u8],
     n: u8,
     i: u8,
 ) -> Tested
     requires { ⌜ SourcesOf (now rs) (now cs) a src ⌝ }
-    ensures { λ r. ⌜ refusalOf r ≡ refuse i (recordCode (now (rs .entry)) (now (cs .entry)) (now (qs .entry)) a (now (s .entry)) n i) none ⌝ }
+    ensures { λ r. ⌜ refusalOf r ≡ refuse i (recordCode (now (rs .entry)) (now (cs .entry)) (now (qs .entry)) a (valueOf want) (now (s .entry)) n i) none ⌝ }
 {
     test_node(
         rs,
@@ -90,6 +105,7 @@ fn test_record(
         qs,
         a,
         src,
+        wanted_of(want, i),
         s,
         n,
         i,
@@ -99,13 +115,21 @@ fn test_record(
 }
 
 // Rules 11 to 15 of the `n` records.
-fn test_records(rs: &[u8], cs: &[u8], qs: &[u8], a: [u16; 16], s: &[u8], n: u8) -> Tested
-    ensures { λ r. ⌜ refusalOf r ≡ refuseFrom (recordCode (now (rs .entry)) (now (cs .entry)) (now (qs .entry)) a (now (s .entry)) n) n 0 none ⌝ }
+fn test_records(
+    rs: &[u8],
+    cs: &[u8],
+    qs: &[u8],
+    a: [u16; 16],
+    want: Label,
+    s: &[u8],
+    n: u8,
+) -> Tested
+    ensures { λ r. ⌜ refusalOf r ≡ refuseFrom (recordCode (now (rs .entry)) (now (cs .entry)) (now (qs .entry)) a (valueOf want) (now (s .entry)) n) n 0 none ⌝ }
 {
     let src = sources(rs, cs, a);
     let mut i: u8 = 0;
     while i < n {
-        let t = test_record(rs, cs, qs, a, src, s, n, i);
+        let t = test_record(rs, cs, qs, a, src, want, s, n, i);
         let Tested::Fine = t else {
             return t;
         };
@@ -115,29 +139,29 @@ fn test_records(rs: &[u8], cs: &[u8], qs: &[u8], a: [u16; 16], s: &[u8], n: u8) 
 }
 
 // Tests 10 to 15 of the `n` records.
-fn test_all(rs: &[u8], cs: &[u8], qs: &[u8], a: [u16; 16], s: &[u8], n: u8) -> Tested
-    ensures { λ r. ⌜ refusalOf r ≡ recordsCode (now (rs .entry)) (now (cs .entry)) (now (qs .entry)) a (now (s .entry)) n ⌝ }
+fn test_all(rs: &[u8], cs: &[u8], qs: &[u8], a: [u16; 16], want: Label, s: &[u8], n: u8) -> Tested
+    ensures { λ r. ⌜ refusalOf r ≡ recordsCode (now (rs .entry)) (now (cs .entry)) (now (qs .entry)) a (valueOf want) (now (s .entry)) n ⌝ }
 {
     let t = test_forms(s, n);
     let Tested::Fine = t else {
         return t;
     };
-    test_records(rs, cs, qs, a, s, n)
+    test_records(rs, cs, qs, a, want, s, n)
 }
 
-// Tests 9 to 15 of the graph `s`, if `a` holds the ancestors of each role.
-fn test_graph(rs: &[u8], cs: &[u8], qs: &[u8], a: [u16; 16], s: &[u8]) -> Tested
-    ensures { λ r. ⌜ refusalOf r ≡ graphCode (now (rs .entry)) (now (cs .entry)) (now (qs .entry)) a (now (s .entry)) ⌝ }
+// Tests 9 to 15 of the graph `s`, whose record 0 is to have `want`, if `a` holds the ancestors of each role.
+pub fn test_graph(rs: &[u8], cs: &[u8], qs: &[u8], a: [u16; 16], want: Label, s: &[u8]) -> Tested
+    ensures { λ r. ⌜ refusalOf r ≡ graphCode (now (rs .entry)) (now (cs .entry)) (now (qs .entry)) a (valueOf want) (now (s .entry)) ⌝ }
 {
     let head = read_head(s);
     match head {
-        Head::GraphOf(n) => test_all(rs, cs, qs, a, s, n),
+        Head::GraphOf(n) => test_all(rs, cs, qs, a, want, s, n),
         Head::RefutationOf(_) => Tested::Refused(9, 0),
         Head::Off => Tested::Refused(9, 0),
     }
 }
 
-// Tests 2 to 15, with the same table of ancestors.
+// Tests 2 to 15 of a plain question, with the same table of ancestors.
 pub fn test_sample(rs: &[u8], cs: &[u8], qs: &[u8], a: [u16; 16], s: &[u8]) -> Tested
     ensures { λ r. ⌜ refusalOf r ≡ tablesCode (now (rs .entry)) (now (cs .entry)) (now (qs .entry)) a (now (s .entry)) ⌝ }
 {
@@ -145,5 +169,5 @@ pub fn test_sample(rs: &[u8], cs: &[u8], qs: &[u8], a: [u16; 16], s: &[u8]) -> T
     let Tested::Fine = t else {
         return t;
     };
-    test_graph(rs, cs, qs, a, s)
+    test_graph(rs, cs, qs, a, root_set(qs), s)
 }

@@ -122,3 +122,10 @@ pub fn put(x: Label, l: u8) -> Label
     }
     x
 }
+
+// The label of the literal `l` alone.
+pub fn only(l: u8) -> Label
+    ensures { λ r. ⌜ valueOf r ≡ labelWith 0 l ⌝ }
+{
+    put(Label { high: 0, low: 0 }, l)
+}

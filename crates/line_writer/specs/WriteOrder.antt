@@ -17,7 +17,7 @@ use Rattle.lines.specs.Lines.{lineLength, mostElements, lineBytes}
 use Rattle.answers.specs.declared.Written.{Written}
 use Rattle.answers.specs.declared.Written.the-variants.{Line, Refused}
 use Rattle.answers.specs.Answers.{answer, WRITTEN, ofWritten, lengthOf}
-use Rattle.description.specs.Descriptions.{Description}
+use Rattle.description.specs.Descriptions.{Description, wanted}
 use Rattle.tables.specs.Tables.{describe}
 use Rattle.roles.specs.Ancestors.{AncestorsOf}
 use Rattle.intake.specs.Intake.{directoryTest, rolesPart, conceptsPart, queryPart, partsTest, parts-accepted, bytesTest, described}
@@ -81,7 +81,7 @@ module _ (rs cs s a old : List ℕ) (size : ℕ) (e : size ≡ sizeIn s) where
 -- ---- the parts of a description
 unfoldable pub partsRefused : List ℕ → List ℕ → List ℕ → List ℕ → ℕ → Option Refusal
 partsRefused rs cs qs s n = let D = describe rs cs qs in
-    firstOf (refuse 0 (partsTest rs cs qs) (graphTests D s)) (refuse 0 (roomTest (line D (graphIn s) .size) n) none)
+    firstOf (refuse 0 (partsTest rs cs qs) (graphTests D (wanted D) s)) (refuse 0 (roomTest (line D (graphIn s) .size) n) none)
 
 -- the answer, its length, and every byte of the buffer, after the refusals o
 pub record Wrote (D : Description) (s old new : List ℕ) (r : Written) (o : Option Refusal) : Type 0 where
@@ -99,11 +99,11 @@ module _ (rs cs qs a s old : List ℕ) (anc : AncestorsOf rs a) where
   write-stops n i e = rw (← tables-code-is rs cs qs a s anc, ← e) (record { says = refl; long = refl; buffer = refl })
 
   module _ (fine : none ≡ tablesCode rs cs qs a s) where
-    kept : (partsTest rs cs qs ≡ none) × (graphTests D s ≡ none)
-    kept = refuse↔ 0 (partsTest rs cs qs) (graphTests D s) .0 (sym (fine ∙ tables-code-is rs cs qs a s anc))
+    kept : (partsTest rs cs qs ≡ none) × (graphTests D (wanted D) s ≡ none)
+    kept = refuse↔ 0 (partsTest rs cs qs) (graphTests D (wanted D) s) .0 (sym (fine ∙ tables-code-is rs cs qs a s anc))
 
-    graph-kept : GraphKept D s
-    graph-kept = kept↔ D s .0 (kept .1)
+    graph-kept : GraphKept D (wanted D) s
+    graph-kept = kept↔ D (wanted D) s .0 (kept .1)
 
     pub some-record : 1 ≤ recordCount s
     some-record = graph-kept .head .1 .0

@@ -12,6 +12,7 @@ use Rattle.logic.specs.Refusals.{Refusal, unless, unless↔, refuse, refuse↔,
 use Rattle.interpretation.specs.Meaning.{Interpretation}
 use Rattle.graph.specs.Line.{line}
 use Rattle.lines.specs.Lines.{lineLength, mostElements, lineBytes}
+use Rattle.description.specs.Descriptions.{wanted}
 use Rattle.intake.specs.Intake.{described, AcceptedBytes}
 use Rattle.evidence.specs.Evidence.{graphIn}
 use Rattle.graph_check.specs.GraphEvidence.{graphRefused, GraphKept, not-refused↔}
@@ -50,15 +51,15 @@ bufferAfter d s old = unlessRefused old (lineBytes (described d) (lineOf d s) ++
 
 -- ---- exactly when
 pub written↔ : (d s : List ℕ) (n : ℕ) → (writeAnswer d s n ≡ answer WRITTEN none)
-    ↔ ((AcceptedBytes d × GraphKept (described d) s) × ((lineOf d s .size ≤ mostElements) × (lineLength (lineOf d s .size) ≤ n)))
+    ↔ ((AcceptedBytes d × GraphKept (described d) (wanted (described d)) s) × ((lineOf d s .size ≤ mostElements) × (lineLength (lineOf d s .size) ≤ n)))
 unfolding writeRefused
 written↔ d s n = let w = told↔ WRITTEN WRITTEN (writeRefused d s n) (λ e. let z : _≡_ {A = ℕ} 0 1 = cc in omega arith) in let k = room↔ in
     (λ e. k .0 (w .0 e .1), λ h. w .1 (refl, k .1 h))
   where
-    room↔ : (writeRefused d s n ≡ none) ↔ ((AcceptedBytes d × GraphKept (described d) s) × ((lineOf d s .size ≤ mostElements) × (lineLength (lineOf d s .size) ≤ n)))
+    room↔ : (writeRefused d s n ≡ none) ↔ ((AcceptedBytes d × GraphKept (described d) (wanted (described d)) s) × ((lineOf d s .size ≤ mostElements) × (lineLength (lineOf d s .size) ≤ n)))
     room↔ = simp (first↔, not-refused↔, refuse↔, unless↔, reading) (λ t. (t .0, (t .1 .0 .0, t .1 .0 .1 .0)), λ t. (t .0, ((t .1 .0, (t .1 .1, refl)), refl)))
 
 -- so for what write_interpretation answers
 pub written-when : (d s : List ℕ) (n : ℕ) (w : Written) → ofWritten w ≡ writeAnswer d s n → (w ≡ Line (lengthOf w))
-    ↔ ((AcceptedBytes d × GraphKept (described d) s) × ((lineOf d s .size ≤ mostElements) × (lineLength (lineOf d s .size) ≤ n)))
+    ↔ ((AcceptedBytes d × GraphKept (described d) (wanted (described d)) s) × ((lineOf d s .size ≤ mostElements) × (lineLength (lineOf d s .size) ≤ n)))
 written-when d s n w e = case-when (ofWritten w) (writeAnswer d s n) (answer WRITTEN none) e (Case.written↔ w) (written↔ d s n)

@@ -13,7 +13,7 @@ ghost use Rattle.list_form.specs.ListForm.{bytesAt};
 ghost use Rattle.rows.specs.HeldRows.{rowsHeld};
 ghost use Rattle.list_check.specs.CheckSteps.{formCode, formOf, countCode, stepCode, recordCode, endCode, recordsCode, listCode};
 use answers::Tested;
-use cites::within_two;
+use cites::within_one;
 use evidence::Head;
 use evidence::read_head;
 use evidence::record_edges;
@@ -134,21 +134,20 @@ fn test_records(rs: &[u8], cs: &[u8], qs: &[u8], a: [u16; 16], s: &[u8], n: u8) 
     Tested::Fine
 }
 
-// Test 20: the label of record `last` holds nothing but literal 0 and the root.
-fn test_end(qs: &[u8], s: &[u8], last: u8) -> Tested
-    ensures { λ r. ⌜ refusalOf r ≡ refuse last (endCode (now (qs .entry)) (now (s .entry)) last) none ⌝ }
+// Test 20: the label of record `last` holds nothing but literal 0 and what is wanted.
+fn test_end(want: Label, s: &[u8], last: u8) -> Tested
+    ensures { λ r. ⌜ refusalOf r ≡ refuse last (endCode (valueOf want) (now (s .entry)) last) none ⌝ }
 {
-    let nothing = Label { high: 0, low: 0 };
-    if !within_two(s, last, nothing, 0, byte(qs, 0)) {
+    if !within_one(s, last, want, 0) {
         return Tested::Refused(20, last);
     }
     Tested::Fine
 }
 
 // Tests 10 and 16 to 20 of the `n` records.
-fn test_all(rs: &[u8], cs: &[u8], qs: &[u8], a: [u16; 16], s: &[u8], n: u8) -> Tested
+fn test_all(rs: &[u8], cs: &[u8], qs: &[u8], a: [u16; 16], want: Label, s: &[u8], n: u8) -> Tested
     requires { ⌜ 1 ≤ n ⌝ }
-    ensures { λ r. ⌜ refusalOf r ≡ recordsCode (now (rs .entry)) (now (cs .entry)) (now (qs .entry)) a (now (s .entry)) n ⌝ }
+    ensures { λ r. ⌜ refusalOf r ≡ recordsCode (now (rs .entry)) (now (cs .entry)) (now (qs .entry)) a (valueOf want) (now (s .entry)) n ⌝ }
 {
     let t = test_forms(s, n);
     let Tested::Fine = t else {
@@ -158,16 +157,16 @@ fn test_all(rs: &[u8], cs: &[u8], qs: &[u8], a: [u16; 16], s: &[u8], n: u8) -> T
     let Tested::Fine = u else {
         return u;
     };
-    test_end(qs, s, n - 1)
+    test_end(want, s, n - 1)
 }
 
-// Tests 9, 10 and 16 to 20 of the list `s`, if `a` holds the ancestors of each role.
-pub fn test_list(rs: &[u8], cs: &[u8], qs: &[u8], a: [u16; 16], s: &[u8]) -> Tested
-    ensures { λ r. ⌜ refusalOf r ≡ listCode (now (rs .entry)) (now (cs .entry)) (now (qs .entry)) a (now (s .entry)) ⌝ }
+// Tests 9, 10 and 16 to 20 of the list `s`, which is to end within literal 0 and `want`, if `a` holds the ancestors of each role.
+pub fn test_list(rs: &[u8], cs: &[u8], qs: &[u8], a: [u16; 16], want: Label, s: &[u8]) -> Tested
+    ensures { λ r. ⌜ refusalOf r ≡ listCode (now (rs .entry)) (now (cs .entry)) (now (qs .entry)) a (valueOf want) (now (s .entry)) ⌝ }
 {
     let head = read_head(s);
     match head {
-        Head::RefutationOf(n) => test_all(rs, cs, qs, a, s, n),
+        Head::RefutationOf(n) => test_all(rs, cs, qs, a, want, s, n),
         Head::GraphOf(_) => Tested::Refused(9, 0),
         Head::Off => Tested::Refused(9, 0),
     }

@@ -80,6 +80,9 @@ pub refuse-some : (i : ℕ) (o : Option ℕ) (later : Option Refusal) (z : Refus
 refuse-some i none later z e = absurd (Option·none-ne-some z e)
 refuse-some i (some n) later z e = e
 
+pub refuse-none : (i : ℕ) (o : Option ℕ) (later : Option Refusal) → refuse i o none ≡ none → refuse i o later ≡ later
+refuse-none i o later e = rw (refuse↔ i o none .0 e .0) refl
+
 -- and matters alone where nothing does
 pub refuse-then : (i : ℕ) (o : Option ℕ) (x y : Option Refusal) → (o ≡ none → x ≡ y) → refuse i o x ≡ refuse i o y
 refuse-then i none x y h = h refl

@@ -1,22 +1,22 @@
 -- Rules 11 and 12 of a graph's record as the code tests them, on literals by number.
-use Prim.Native.Nat.{ℕ, zero, suc, _+_, _-_, _*_, _/_, _%_}
-use mathlib.Core.Path.{_≡_, refl, sym, _∙_, ap}
+use Prim.Native.Nat.{ℕ, zero, suc, _+_, _-_, _*_, _/_, _%_, _≤_, _<_}
+use mathlib.Core.Path.{_≡_, refl, sym, _∙_, ap, ap₂}
 use mathlib.Core.Bool.{Bool, true, false, not, _&&_, _||_}
 use mathlib.Core.List.{List, [], _∷_}
 use native.Mathlib.Omega.{arith}
+use borrow.Author.Tests.{lt-ltb}
 use lib.ListN.{length}
 use Rattle.logic.specs.Tests.{_⇒_}
 use Rattle.logic.specs.Bounded.{allBelow, all-cong}
-use Rattle.logic.specs.Lists.{each}
-use Rattle.logic.specs.Sets.{has, narrow}
+use Rattle.logic.specs.Sets.{has, narrow, within}
 use Rattle.parts.specs.Numbers.{byteAt, upTo}
-use Rattle.description.specs.Literals.{opposite, code, literal, code-literal, literal-code, members}
-use Rattle.description.specs.Descriptions.{Entry, top, name, both, every, atLeast, entryOfFields, ifBoth}
+use Rattle.labels.specs.Labels.{labelWith}
+use Rattle.description.specs.Literals.{Literal, opposite, code, literal, entryOf, adding, literalSet, members, code-literal, literal-code, code-entry, within-set}
+use Rattle.description.specs.Descriptions.{Entry, top, name, both, every, atLeast, entryOfFields, ifBoth, wanted}
 use Rattle.tables.specs.Tables.{fieldsAt, describe}
 use Rattle.tables.specs.Concepts.{conceptOf, conceptAt}
 use Rattle.tables.specs.declared.Concept.{Concept}
 use Rattle.tables.specs.declared.Concept.the-variants.{Top, Name, Both, Every, AtLeast}
-use Rattle.graph.specs.Graphs.{wantedAt}
 use Rattle.graph.specs.GraphTests.{labelTest, bothTest}
 
 -- the number of the opposite literal
@@ -24,7 +24,7 @@ abbrev pub opposed : ℕ → ℕ
 opposed l = code (opposite (literal l))
 
 -- ---- 11
--- rule i is in the label N; entry e and its complement are not both; the root is, if it is wanted
+-- rule i is in the label N; entry e and its complement are not both
 abbrev pub ruleIn : List ℕ → ℕ → ℕ → Bool
 ruleIn qs N i = has N (byteAt qs (i + 1))
 
@@ -35,34 +35,34 @@ unopposed N e = has N (2 * e) ⇒ not (has N (2 * e + 1))
 abbrev pub entryCount : List ℕ → ℕ
 entryCount cs = upTo 32 (length cs / 6)
 
-abbrev pub labelCode : List ℕ → ℕ → ℕ → Bool → Bool
-labelCode qs n N wanted = narrow N (2 * n)
-    && (has N 0 && (allBelow (length qs - 1) (ruleIn qs N) && (allBelow n (unopposed N) && (wanted ⇒ has N (byteAt qs 0)))))
+-- M is the set of what is wanted
+abbrev pub labelCode : List ℕ → ℕ → ℕ → ℕ → Bool
+labelCode qs n N M = narrow N (2 * n)
+    && (has N 0 && (allBelow (length qs - 1) (ruleIn qs N) && (allBelow n (unopposed N) && within M N)))
 
-abbrev pub labelTestOf : List ℕ → List ℕ → ℕ → Bool → Bool
-labelTestOf cs qs N wanted = labelCode qs (entryCount cs) N wanted
+abbrev pub labelTestOf : List ℕ → List ℕ → ℕ → ℕ → Bool
+labelTestOf cs qs N M = labelCode qs (entryCount cs) N M
 
--- the first record has the root
-abbrev pub isFirst : ℕ → Bool
-isFirst zero = true
-isFirst (suc x) = false
-
-and-true : (b : Bool) → (b && true) ≡ b
-and-true true = refl
-and-true false = refl
-
-pub label-is : (rs cs qs : List ℕ) (N x : ℕ) → labelCode qs (length cs / 6) N (isFirst x) ≡ labelTest (describe rs cs qs) (wantedAt (describe rs cs qs .root ∷ []) x) N
-unfolding labelTest members each
-label-is rs cs qs N x = ap (λ b. narrow N (2 * n) && (has N 0 && (b && (allBelow n (unopposed N) && (isFirst x ⇒ has N (byteAt qs 0))))))
-    (all-cong (length qs - 1) _ _ (λ i _. ap (has N) (sym (code-literal (byteAt qs (i + 1))))))
-    ∙ ap (λ b. narrow N (2 * n) && (has N 0 && (allBelow (length qs - 1) (λ i. has N (code (literal (byteAt qs (i + 1))))) && (allBelow n (unopposed N) && b)))) (root x)
+pub label-is : (rs cs qs : List ℕ) (W : List Literal) (N : ℕ) → labelCode qs (length cs / 6) N (literalSet W) ≡ labelTest (describe rs cs qs) W N
+unfolding labelTest members
+label-is rs cs qs W N = ap₂ (λ b c. narrow N (2 * n) && (has N 0 && (b && (allBelow n (unopposed N) && c))))
+    (all-cong (length qs - 1) _ _ (λ i _. ap (has N) (sym (code-literal (byteAt qs (i + 1)))))) (within-set W N)
   where
     n : ℕ
     n = length cs / 6
 
-    root : (x : ℕ) → (isFirst x ⇒ has N (byteAt qs 0)) ≡ each (wantedAt (literal (byteAt qs 0) ∷ []) x) (λ l. has N (code l))
-    root zero = ap (has N) (sym (code-literal (byteAt qs 0))) ∙ sym (and-true (has N (code (literal (byteAt qs 0)))))
-    root (suc x) = refl
+-- a literal of a table that fits the label is put in
+pub put-is : (n N : ℕ) (l : Literal) → n ≤ 32 → entryOf l < n → labelWith N (code l) ≡ adding N l
+unfolding labelWith adding
+put-is n N l few h = let z : code l < 64 = let y = code-entry l n .1 h in omega arith in rw (lt-ltb (code l) 64 z) refl
+
+-- the root as a set, and as what a plain question wants
+abbrev pub rootSet : List ℕ → ℕ
+rootSet qs = labelWith 0 (byteAt qs 0)
+
+pub root-is : (rs cs qs : List ℕ) → length cs / 6 ≤ 32 → entryOf (literal (byteAt qs 0)) < length cs / 6 → rootSet qs ≡ literalSet (wanted (describe rs cs qs))
+unfolding literalSet
+root-is rs cs qs few h = ap (labelWith 0) (sym (code-literal (byteAt qs 0))) ∙ put-is (length cs / 6) 0 (literal (byteAt qs 0)) few h
 
 -- ---- 12
 -- of "both a b", entry e
@@ -102,9 +102,9 @@ pub parts-read : (N e a b : ℕ) (p q r s t u : Bool) → p ≡ has N (2 * e) �
     → ((not p || (q && r)) && (not s || (t || u))) ≡ partsIn N e a b
 parts-read N e a b p q r s t u hp hq hr hs ht hu = ap (λ z. z && (not s || (t || u))) (if-then p (q && r)) ∙ ap (λ z. (p ⇒ (q && r)) && z) (if-then s (t || u)) ∙ rw (hp, hq, hr, hs, ht, hu) refl
 
-pub label-read : (cs qs : List ℕ) (N n : ℕ) (wanted p q r s t : Bool) → n ≡ entryCount cs → p ≡ narrow N (2 * n) → q ≡ has N 0 → r ≡ allBelow (length qs - 1) (ruleIn qs N)
-    → s ≡ allBelow n (unopposed N) → t ≡ has N (byteAt qs 0) → (p && (q && (r && (s && (not wanted || t))))) ≡ labelTestOf cs qs N wanted
-label-read cs qs N n wanted p q r s t hn hp hq hr hs ht = ap (λ z. p && (q && (r && (s && z)))) (if-then wanted t) ∙ rw (hp, hq, hr, hs, ht, hn) refl
+pub label-read : (cs qs : List ℕ) (N n M : ℕ) (p q r s t : Bool) → n ≡ entryCount cs → p ≡ narrow N (2 * n) → q ≡ has N 0
+    → r ≡ allBelow (length qs - 1) (ruleIn qs N) → s ≡ allBelow n (unopposed N) → t ≡ within M N → (p && (q && (r && (s && t)))) ≡ labelTestOf cs qs N M
+label-read cs qs N n M p q r s t hn hp hq hr hs ht = rw (hp, hq, hr, hs, ht, hn) refl
 
 -- a test of "both", on the concept that the code has read
 abbrev pub ofBoth : (ℕ → ℕ → Bool) → Concept → Bool

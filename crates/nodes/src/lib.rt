@@ -5,10 +5,12 @@ ghost use Prim.Native.Nat.{_+_, _-_, _*_, _/_, _<_, _≤_};
 ghost use lib.ListN.{length};
 ghost use Rattle.logic.specs.Bounded.{allBelow};
 ghost use Rattle.labels.specs.Labels.{valueOf};
-ghost use Rattle.nodes.specs.NodeSteps.{opposed, entryCount, ruleIn, unopposed, labelTestOf, partsIn, bothAt};
+ghost use Rattle.nodes.specs.NodeSteps.{opposed, entryCount, ruleIn, unopposed, labelTestOf, rootSet, partsIn, bothAt};
 use labels::Label;
 use labels::below;
 use labels::holds;
+use labels::lies_within;
+use labels::only;
 use parts::byte;
 use parts::up_to;
 use tables::Concept;
@@ -75,17 +77,24 @@ pub fn entry_count(cs: &[u8]) -> u8
     up_to(32, cs.len() / 6)
 }
 
-// Rule 11 of a record with the label `x`; `wanted` says that it is the first, which has the root.
-pub fn label_ok(cs: &[u8], qs: &[u8], x: Label, wanted: bool) -> bool
-    ensures { λ r. ⌜ r ≡ labelTestOf (now (cs .entry)) (now (qs .entry)) (valueOf x) wanted ⌝ }
+// What a plain question wants of record 0, and of a list's end beside literal 0: the root.
+pub fn root_set(qs: &[u8]) -> Label
+    ensures { λ r. ⌜ valueOf r ≡ rootSet (now (qs .entry)) ⌝ }
+{
+    only(byte(qs, 0))
+}
+
+// Rule 11 of a record with the label `x`, of which the literals `want` are wanted.
+pub fn label_ok(cs: &[u8], qs: &[u8], x: Label, want: Label) -> bool
+    ensures { λ r. ⌜ r ≡ labelTestOf (now (cs .entry)) (now (qs .entry)) (valueOf x) (valueOf want) ⌝ }
 {
     let n = entry_count(cs);
     let table = below(x, 2 * n);
     let top = holds(x, 0);
     let rules = rules_in(qs, x);
     let apart = consistent(x, n);
-    let root = holds(x, byte(qs, 0));
-    table & (top & (rules & (apart & (!wanted | root))))
+    let wanted = lies_within(want, x);
+    table & (top & (rules & (apart & wanted)))
 }
 
 // Whether the label holds the two parts of "both a b", entry `e`, or denies one with it.

@@ -11,7 +11,7 @@ use Rattle.logic.specs.Lists.{each}
 use Rattle.logic.specs.Sets.{has, narrow, within, with, setOf}
 use Rattle.logic.specs.Refusals.{Refusal, refuseFrom}
 use Rattle.counting.specs.Trees.{lower, upper, Tree, leaf, split, formed, depth, leafTest, treeTest}
-use Rattle.description.specs.Literals.{Literal, literal, members, adding, labelOf}
+use Rattle.description.specs.Literals.{Literal, literal, members, adding, literalSet, labelOf}
 use Rattle.description.specs.Descriptions.{Entry, top, name, both, every, atLeast, Description, sameEntry, isBoth}
 use Rattle.description.specs.Roles.{ancestor}
 use Rattle.description.specs.Examples.{Role, under, transitiveUnder, tableOf, lit, bits}
@@ -365,7 +365,7 @@ trials-hold : Agree endTrials × Agree stepTrials × Agree countTrials × Agree 
 unfolding endTrials stepTrials countTrials manyTrials cellTrials ruled limited p6-with named many quads chain splitAt
     refutationRefusal refuseFrom recordRefusal whenCounting ifCited citeTest stepTest endLabel
     formed depth leafTest treeTest rowsOf bounds known cellRole ancestor closure sameEntry isBoth
-    literal members adding labelOf narrow within with has setOf each allBelow anyBelow
+    literal members adding literalSet labelOf narrow within with has setOf each allBelow anyBelow
 trials-hold = (refl, refl, refl, refl, refl)
 
 -- a list of no record closes nothing

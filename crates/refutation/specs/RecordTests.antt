@@ -3,7 +3,7 @@ use Prim.Native.Nat.{ℕ, zero, suc, _*_, _-_, _^_, _≤_, _<_}
 use mathlib.Core.Path.{_≡_, refl, sym, _∙_, subst}
 use mathlib.Core.Logic.{_↔_, _⊎_, inl, inr, Iff·rfl}
 use mathlib.Core.Bool.{Bool, true, false, _&&_, _||_, false≢true}
-use mathlib.Core.List.{List, [], _∷_, List·Memᴰ·head, List·Memᴰ·tail, List·Memᴰ·cases-cons}
+use mathlib.Core.List.{List, [], _∷_}
 use mathlib.Core.Option.{Option, none, some}
 use lib.Dec.{eqb, leb, ltb}
 use lib.ListN.{length}
@@ -15,7 +15,7 @@ use Rattle.logic.specs.Refusals.{Refusal, unless, unless↔, refuse, refuse↔,
 use Rattle.counting.specs.Trees.{Tree, formed, depth, ValuesFit, treeTest}
 use Rattle.counting.specs.TreeLaws.{tree↔, fits-all}
 use Rattle.counting.specs.Rows.{limits, Closed, closedTest}
-use Rattle.description.specs.Literals.{Literal, pos, neg, opposite, code, entryOf, Label, members, adding, plus, Within, in-table↔, within-members↔, members-adding, no-literal, plus↔, labelOf, members-labelOf}
+use Rattle.description.specs.Literals.{Literal, pos, neg, opposite, code, entryOf, Label, members, adding, literalSet, plus, Within, in-table↔, within-members↔, members-adding, adding↔, literal-set↔, labelOf, members-labelOf}
 use Rattle.description.specs.Descriptions.{Description, isBoth, isBoth↔}
 use Rattle.description.specs.Acceptance.{Accepted}
 use Rattle.refutation.specs.Cells.{Row, rowOf, isRow, rowsOf, bounds, Known, known, known↔, rows-in, known-in}
@@ -89,8 +89,7 @@ module _ (D : Description) (num : ℕ → ℕ) (i N : ℕ) where
 
 -- the set of literal 0 and what is wanted
 unfoldable pub endLabel : List Literal → ℕ
-endLabel [] = adding 0 (pos 0)
-endLabel (l ∷ W) = adding (endLabel W) l
+endLabel W = adding (literalSet W) (pos 0)
 
 -- 10, of one record
 abbrev pub recordForm : RefutationLimits → Step → Option ℕ
@@ -183,19 +182,9 @@ module _ (D : Description) (num : ℕ → ℕ) (i N : ℕ) where
 -- 20
 members-end : (W : List Literal) (l : Literal) → So (members (endLabel W) l) ↔ ((pos 0 ≡ l) ⊎ (l ∈ W))
 unfolding endLabel
-members-end [] l = rw (members-adding 0 (pos 0) l) (
-  λ h. elim (plus↔ (members 0) (pos 0) l .0 h) [ inl u ↦ absurd (no-literal l u) | inr e ↦ inl e ],
-  λ h. plus↔ (members 0) (pos 0) l .1 (elim h [ inl e ↦ inr e | inr m ↦ elim m [ ] ]),
-)
-members-end (x ∷ W) l = rw (members-adding (endLabel W) x l) (
-  λ h. elim (plus↔ (members (endLabel W)) x l .0 h) [
-    | inl u ↦ elim (members-end W l .0 u) [ inl e ↦ inl e | inr m ↦ inr (List·Memᴰ·tail m) ]
-    | inr e ↦ inr (List·Memᴰ·head (sym e))
-  ],
-  λ h. plus↔ (members (endLabel W)) x l .1 (elim h [
-    | inl e ↦ inl (members-end W l .1 (inl e))
-    | inr m ↦ elim (List·Memᴰ·cases-cons m) [ inl e ↦ inr (sym e) | inr t ↦ inl (members-end W l .1 (inr t)) ]
-  ]),
+members-end W l = (
+  λ h. elim (adding↔ (literalSet W) (pos 0) l .0 h) [ inl u ↦ inr (literal-set↔ W l .0 u) | inr e ↦ inl e ],
+  λ h. adding↔ (literalSet W) (pos 0) l .1 (elim h [ inl e ↦ inr e | inr m ↦ inl (literal-set↔ W l .1 m) ]),
 )
 
 pub end↔ : (W : List Literal) (N : ℕ) → So (within N (endLabel W)) ↔ EndOk W N

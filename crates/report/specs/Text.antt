@@ -9,7 +9,7 @@ use borrow.Author.Tests.{lt-ltb, le-ltb}
 use lib.Dec.{ltb}
 use lib.ListN.{length, take, drop}
 use Rattle.parts.specs.Numbers.{byteAt}
-use Rattle.answers.specs.Answers.{Word, REFUSED, INHABITED, EMPTY, WRITTEN, HOLDS, FAILS, Answer}
+use Rattle.answers.specs.Answers.{Word, REFUSED, INHABITED, EMPTY, WRITTEN, HOLDS, FAILS, HOLDS-OF-NOTHING, Answer}
 
 -- ---- the text
 abbrev pub wordText : Word → List ℕ
@@ -19,6 +19,7 @@ wordText EMPTY = 69 ∷ 77 ∷ 80 ∷ 84 ∷ 89 ∷ []
 wordText WRITTEN = 87 ∷ 82 ∷ 73 ∷ 84 ∷ 84 ∷ 69 ∷ 78 ∷ []
 wordText HOLDS = 72 ∷ 79 ∷ 76 ∷ 68 ∷ 83 ∷ []
 wordText FAILS = 70 ∷ 65 ∷ 73 ∷ 76 ∷ 83 ∷ []
+wordText HOLDS-OF-NOTHING = 72 ∷ 79 ∷ 76 ∷ 68 ∷ 83 ∷ 32 ∷ 79 ∷ 70 ∷ 32 ∷ 78 ∷ 79 ∷ 84 ∷ 72 ∷ 73 ∷ 78 ∷ 71 ∷ []
 
 -- a digit below 10
 abbrev pub digit : ℕ → ℕ

@@ -2,7 +2,7 @@
 use Prim.Native.Nat.{ℕ, _+_, _*_}
 use mathlib.Core.Path.{_≡_}
 use native.Mathlib.Omega.{arith}
-use Rattle.answers.specs.Answers.{Word, REFUSED, INHABITED, EMPTY, WRITTEN, HOLDS, FAILS, Answer}
+use Rattle.answers.specs.Answers.{Word, REFUSED, INHABITED, EMPTY, WRITTEN, HOLDS, FAILS, HOLDS-OF-NOTHING, Answer}
 
 abbrev pub wordNo : Word → ℕ
 wordNo REFUSED = 0
@@ -11,6 +11,7 @@ wordNo EMPTY = 2
 wordNo WRITTEN = 3
 wordNo HOLDS = 4
 wordNo FAILS = 5
+wordNo HOLDS-OF-NOTHING = 6
 
 abbrev pub packed : Answer → ℕ
 packed a = wordNo (a .word) * 65536 + (a .number * 256 + a .place)

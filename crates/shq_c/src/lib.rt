@@ -1,15 +1,18 @@
-// The three public functions for programs in C: an answer as one number.
+// The four public functions for programs in C: an answer as one number.
 ghost use mathlib.Core.Path.{_≡_};
 ghost use Prim.Native.Nat.{_+_, _*_};
 ghost use lib.ListN.{length};
-ghost use Rattle.answers.specs.Answers.{ofVerdict, ofWritten, ofReading};
+ghost use Rattle.answers.specs.Answers.{ofVerdict, ofClaim, ofWritten, ofReading};
 ghost use Rattle.verdict.specs.Verdict.{verdict};
+ghost use Rattle.claims.specs.Claims.{claimAnswer};
 ghost use Rattle.line_writer.specs.Writing.{writeAnswer, bufferAfter};
 ghost use Rattle.line_reader.specs.Reading.{readAnswer};
 ghost use Rattle.shq_c.specs.Packed.{packed};
+use answers::Claim;
 use answers::Reading;
 use answers::Verdict;
 use answers::Written;
+use claims::check_claim;
 use line_reader::read_interpretation;
 use line_writer::write_interpretation;
 use verdict::check_evidence;
@@ -28,6 +31,17 @@ fn of_verdict(v: Verdict) -> u32
         Verdict::Inhabited => 65536,
         Verdict::Empty => 131072,
         Verdict::Refused(n, i) => refused(n, i),
+    }
+}
+
+fn of_claim(v: Claim) -> u32
+    ensures { λ r. ⌜ r ≡ packed (ofClaim v) ⌝ }
+{
+    match v {
+        Claim::Holds => 262144,
+        Claim::Fails => 327680,
+        Claim::HoldsOfNothing => 393216,
+        Claim::Refused(n, i) => refused(n, i),
     }
 }
 
@@ -56,6 +70,14 @@ pub extern "C" fn shq_check(description: &[u8], evidence: &[u8]) -> u32
     ensures { λ r. ⌜ r ≡ packed (verdict (now (description .entry)) (now (evidence .entry))) ⌝ }
 {
     of_verdict(check_evidence(description, evidence))
+}
+
+// The answer on the claim that every `c` is `d`, with one piece of evidence or two; the second may be empty.
+#[no_mangle]
+pub extern "C" fn shq_claim(description: &[u8], c: u8, d: u8, first: &[u8], second: &[u8]) -> u32
+    ensures { λ r. ⌜ r ≡ packed (claimAnswer (now (description .entry)) c d (now (first .entry)) (now (second .entry))) ⌝ }
+{
+    of_claim(check_claim(description, c, d, first, second))
 }
 
 // The line of a graph, written into the buffer; on a refusal no byte of it changes.

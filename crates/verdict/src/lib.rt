@@ -10,11 +10,12 @@ use graph_check::test_sample;
 use intake::directory_ok;
 use intake::test_tables;
 use list_check::test_list;
+use nodes::root_set;
 use parts::byte;
 use parts::part;
 use roles::ancestors;
 
-// Tests 2 to 8 of the tables and 9 to 20 of the list `s`, if `a` holds the ancestors of each role.
+// Tests 2 to 8 of the tables and 9 to 20 of the list `s` for a plain question, if `a` holds the ancestors of each role.
 fn test_refutation(rs: &[u8], cs: &[u8], qs: &[u8], a: [u16; 16], s: &[u8]) -> Tested
     ensures { λ r. ⌜ refusalOf r ≡ listTablesCode (now (rs .entry)) (now (cs .entry)) (now (qs .entry)) a (now (s .entry)) ⌝ }
 {
@@ -22,7 +23,7 @@ fn test_refutation(rs: &[u8], cs: &[u8], qs: &[u8], a: [u16; 16], s: &[u8]) -> T
     let Tested::Fine = t else {
         return t;
     };
-    test_list(rs, cs, qs, a, s)
+    test_list(rs, cs, qs, a, root_set(qs), s)
 }
 
 // The verdict that tests of a list, or of a graph, end in.

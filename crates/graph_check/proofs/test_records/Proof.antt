@@ -4,6 +4,7 @@ use mathlib.Core.Option.{none}
 use native.Mathlib.Omega.{arith}
 use borrow.Author.Needs.{needs}
 use Rattle.logic.specs.Refusals.{refuseFrom}
+use Rattle.labels.specs.Labels.{valueOf}
 use Rattle.answers.specs.Answers.{refusalOf}
 use Rattle.graph_check.specs.GraphSteps.{recordCode}
 use Rattle.logic.specs.Refusals.{records-start, records-on, records-stop, records-end}
@@ -15,10 +16,11 @@ use Rattle.fillers.proofs.sources.Reads as sources-reads
 use Rattle.graph_check.proofs.test_record.Reads as test-record-reads
 
 abbrev Inv-loop : tie.InvT-loop
-Inv-loop rs cs qs a s n src i₀ i = (i ≤ n) × (refuseFrom (recordCode rs cs qs a s n) (n - i) i none ≡ refuseFrom (recordCode rs cs qs a s n) n 0 none)
+Inv-loop rs cs qs a want s n src i₀ i = let code = recordCode rs cs qs a (valueOf want) s n in
+    (i ≤ n) × (refuseFrom code (n - i) i none ≡ refuseFrom code n 0 none)
 
 abbrev μ-loop : tie.MeasureT-loop
-μ-loop rs cs qs a s n src i₀ i = n - i
+μ-loop rs cs qs a want s n src i₀ i = n - i
 
 sources-requires : tie.Need-sources-requires Inv-loop μ-loop
 sources-requires c κs = search needs

@@ -1,4 +1,5 @@
 use mathlib.Core.Path.{sym, _∙_, ap}
+use Rattle.labels.specs.Labels.{valueOf}
 use Rattle.answers.specs.Answers.{refusalOf}
 use Rattle.list_check.specs.CheckSteps.{forms-stop, rules-stop, rules-end}
 use borrow.Author.Needs.{needs}
@@ -20,7 +21,9 @@ enum-told-2 : tie.Need-enum-told-2
 enum-told-2 c = search needs
 
 returns : tie.Need-returns
-returns c = let g = c .before .before .before .before .before .before .before .args in ap refusalOf (c .enum-told2 .given .1) ∙ forms-stop (g .rs .now) (g .cs .now) (g .qs .now) (g .a) (g .s .now) (g .n) _ (sym (c .before .before .test-forms .ensures) ∙ ap refusalOf (c .enum-told2 .given .1))
+returns c = let g = c .before .before .before .before .before .before .before .args in
+    ap refusalOf (c .enum-told2 .given .1) ∙ forms-stop (g .rs .now) (g .cs .now) (g .qs .now) (g .a) (valueOf (g .want)) (g .s .now) (g .n) _
+    (sym (c .before .before .test-forms .ensures) ∙ ap refusalOf (c .enum-told2 .given .1))
 
 test-records-requires : tie.Need-test-records-requires
 test-records-requires c κs = search needs
@@ -32,7 +35,10 @@ enum-told-4 : tie.Need-enum-told-4
 enum-told-4 c = search needs
 
 returns-2 : tie.Need-returns-2
-returns-2 c = let g = c .before .before .before .before .before .before .before .before .before .before .args in ap refusalOf (c .enum-told4 .given .1) ∙ rules-stop (g .rs .now) (g .cs .now) (g .qs .now) (g .a) (g .s .now) (g .n) (sym (c .before .before .before .before .before .test-forms .ensures) ∙ ap refusalOf (c .before .before .before .enum-told .given .1)) _ (sym (c .before .before .test-records .ensures) ∙ ap refusalOf (c .enum-told4 .given .1))
+returns-2 c = let g = c .before .before .before .before .before .before .before .before .before .before .args in
+    ap refusalOf (c .enum-told4 .given .1) ∙ rules-stop (g .rs .now) (g .cs .now) (g .qs .now) (g .a) (valueOf (g .want)) (g .s .now) (g .n)
+    (sym (c .before .before .before .before .before .test-forms .ensures) ∙ ap refusalOf (c .before .before .before .enum-told .given .1)) _
+    (sym (c .before .before .test-records .ensures) ∙ ap refusalOf (c .enum-told4 .given .1))
 
 sub-test-end : tie.Need-sub-test-end
 sub-test-end c = search needs
@@ -41,7 +47,10 @@ test-end-requires : tie.Need-test-end-requires
 test-end-requires c κs = search needs
 
 returns-3 : tie.Need-returns-3
-returns-3 c = let g = c .before .before .before .before .before .before .before .before .before .before .before .args in c .test-end .ensures ∙ rules-end (g .rs .now) (g .cs .now) (g .qs .now) (g .a) (g .s .now) (g .n) (sym (c .before .before .before .before .before .before .test-forms .ensures) ∙ ap refusalOf (c .before .before .before .before .enum-told .given .1)) (sym (c .before .before .before .test-records .ensures) ∙ ap refusalOf (c .before .enum-told3 .given .1))
+returns-3 c = let g = c .before .before .before .before .before .before .before .before .before .before .before .args in
+    c .test-end .ensures ∙ rules-end (g .rs .now) (g .cs .now) (g .qs .now) (g .a) (valueOf (g .want)) (g .s .now) (g .n)
+    (sym (c .before .before .before .before .before .before .test-forms .ensures) ∙ ap refusalOf (c .before .before .before .before .enum-told .given .1))
+    (sym (c .before .before .before .test-records .ensures) ∙ ap refusalOf (c .before .enum-told3 .given .1))
 
 pub test-all-spec : {M : Type 1} → statement M
 test-all-spec =

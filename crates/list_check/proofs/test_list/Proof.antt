@@ -1,6 +1,7 @@
 use Prim.Native.Nat.{ℕ}
 use mathlib.Core.Path.{_≡_, sym, _∙_}
 use native.Mathlib.Omega.{arith}
+use Rattle.labels.specs.Labels.{valueOf}
 use Rattle.list_check.specs.CheckSteps.{head-is-list, head-no-list, head-stop, head-on}
 use borrow.Author.Needs.{needs}
 use Rattle.list_check.proofs.test_list.Statement.{statement}
@@ -17,7 +18,8 @@ enum-known-head : tie.Need-enum-known-head
 enum-known-head c = search needs
 
 test-all-requires : tie.Need-test-all-requires
-test-all-requires c κs = let g = c .before .before .before .before .before .before .before .before .args in head-is-list (g .s .now) _ (sym (c .before .head .given .1) ∙ c .before .before .before .read-head .ensures .0) .1 .1
+test-all-requires c κs = let g = c .before .before .before .before .before .before .before .before .args in
+    head-is-list (g .s .now) _ (sym (c .before .head .given .1) ∙ c .before .before .before .read-head .ensures .0) .1 .1
 
 enum-told : tie.Need-enum-told
 enum-told c = search needs
@@ -26,13 +28,19 @@ enum-told-2 : tie.Need-enum-told-2
 enum-told-2 c = search needs
 
 returns : tie.Need-returns
-returns c = let g = c .before .before .before .before .before .before .before .before .before .args in let w = head-is-list (g .s .now) _ (sym (c .before .before .head .given .1) ∙ c .before .before .before .before .read-head .ensures .0) in c .test-all .ensures ∙ head-on (g .rs .now) (g .cs .now) (g .qs .now) (g .a) (g .s .now) _ (w .0) (w .1 .0)
+returns c = let g = c .before .before .before .before .before .before .before .before .before .args in
+    let w = head-is-list (g .s .now) _ (sym (c .before .before .head .given .1) ∙ c .before .before .before .before .read-head .ensures .0) in
+    c .test-all .ensures ∙ head-on (g .rs .now) (g .cs .now) (g .qs .now) (g .a) (valueOf (g .want)) (g .s .now) _ (w .0) (w .1 .0)
 
 returns-2 : tie.Need-returns-2
-returns-2 c = let g = c .before .before .before .before .before .before .before .args in head-stop (g .rs .now) (g .cs .now) (g .qs .now) (g .a) (g .s .now) (head-no-list (g .s .now) _ (c .before .before .read-head .ensures .0) (λ n e. let q = c .enum-told .given .1 in let z : _≡_ {A = ℕ} 0 1 = cc in omega arith))
+returns-2 c = let g = c .before .before .before .before .before .before .before .args in head-stop (g .rs .now) (g .cs .now) (g .qs .now) (g .a) (valueOf (g .want)) (g .s .now)
+    (head-no-list (g .s .now) _ (c .before .before .read-head .ensures .0)
+    (λ n e. let q = c .enum-told .given .1 in let z : _≡_ {A = ℕ} 0 1 = cc in omega arith))
 
 returns-3 : tie.Need-returns-3
-returns-3 c = let g = c .before .before .before .before .before .before .before .args in head-stop (g .rs .now) (g .cs .now) (g .qs .now) (g .a) (g .s .now) (head-no-list (g .s .now) _ (c .before .before .read-head .ensures .0) (λ n e. let q = c .enum-told2 .given .1 in let z : _≡_ {A = ℕ} 0 1 = cc in omega arith))
+returns-3 c = let g = c .before .before .before .before .before .before .before .args in head-stop (g .rs .now) (g .cs .now) (g .qs .now) (g .a) (valueOf (g .want)) (g .s .now)
+    (head-no-list (g .s .now) _ (c .before .before .read-head .ensures .0)
+    (λ n e. let q = c .enum-told2 .given .1 in let z : _≡_ {A = ℕ} 0 1 = cc in omega arith))
 
 pub test-list-spec : {M : Type 1} → statement M
 test-list-spec =

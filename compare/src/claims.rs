@@ -1,0 +1,57 @@
+//! Rounds of claims.
+
+use crate::compare::Comparison;
+use ::compare::encode;
+use ::compare::make::claims::{self, Claim};
+use ::compare::make::descriptions;
+use ::compare::make::refutations::{self, Known};
+use ::compare::make::spoil_claim::{spoiled, Given};
+use ::compare::paper::description::Description;
+use ::compare::paper::label::{opposite, Label};
+use ::compare::random::Random;
+
+/// So many pieces of earlier claims are kept.
+const KEPT: usize = 8;
+
+/// A few claims on one description, and changes of them. `before` has pieces of earlier claims,
+/// made for other literals or another description, and gets those of this round.
+pub fn round(r: &mut Random, c: &mut Comparison, before: &mut Vec<Vec<u8>>) {
+    let description = descriptions::random(r);
+    for _ in 0..3 {
+        if let Some(claim) = claims::search(r, &description) {
+            let whole = Given::of(&description, &claim);
+            with_changes(r, c, &description, &claim, before);
+            with_error(r, c, &description, &whole);
+            before.insert(0, whole.first);
+            before.truncate(KEPT);
+        }
+    }
+}
+
+fn with_changes(
+    r: &mut Random,
+    c: &mut Comparison,
+    description: &Description,
+    claim: &Claim,
+    before: &[Vec<u8>],
+) {
+    c.claim(&Given::of(description, claim));
+    let changes = match claim.second {
+        Some(_) => 20,
+        None => 10,
+    };
+    for _ in 0..changes {
+        c.claim(&spoiled(r, description, claim, before));
+    }
+}
+
+/// The first piece is a list that rests on an error about cells.
+fn with_error(r: &mut Random, c: &mut Comparison, description: &Description, whole: &Given) {
+    let known = r.pick(&[Known::Denied, Known::Reached, Known::Carried]);
+    let exception = Label::of(&[whole.c, opposite(whole.d)]);
+    if let Some(closings) = refutations::search(r, description, exception, known, 1) {
+        let mut given = whole.clone();
+        given.first = encode::list(&closings);
+        c.claim(&given);
+    }
+}

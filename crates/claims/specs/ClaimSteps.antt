@@ -1,0 +1,210 @@
+-- A claim's tests as the code makes them; for an accepted description they are those of Claims.
+use Prim.Native.Nat.{ℕ, _/_, _<_, _≤_}
+use mathlib.Core.Path.{_≡_, refl, sym, _∙_, ap, ap₂}
+use mathlib.Core.Bool.{Bool, true, false, _&&_}
+use mathlib.Core.List.{List}
+use mathlib.Core.Option.{Option, none, some}
+use native.Mathlib.Omega.{arith}
+use borrow.Author.Tests.{ne-eqb}
+use lib.Dec.{ltb}
+use lib.ListN.{length}
+use Rattle.logic.specs.Tests.{So, and-l, and-r, so-ltb}
+use Rattle.logic.specs.Refusals.{Refusal, unless, unless↔, refuse, refuse-then, firstOf}
+use Rattle.description.specs.Literals.{Literal, pos, neg, literal, opposite, code, entryOf, adding, literalSet, code-literal, entryOf-opposite}
+use Rattle.description.specs.Acceptance.{literalTest}
+use Rattle.tables.specs.Tables.{describe}
+use Rattle.labels.specs.Labels.{labelWith}
+use Rattle.roles.specs.Ancestors.{AncestorsOf}
+use Rattle.intake.specs.Intake.{directoryTest, rolesPart, conceptsPart, queryPart, partsTest, parts-accepted, bytesTest}
+use Rattle.intake.specs.Steps.{tablesTest, tables-are}
+use Rattle.nodes.specs.NodeSteps.{opposed, put-is}
+use Rattle.evidence.specs.Evidence.{headOf}
+use Rattle.evidence.specs.declared.Head.{Head}
+use Rattle.evidence.specs.declared.Head as Heads
+use Rattle.evidence.specs.declared.Head.the-variants.{GraphOf, RefutationOf}
+use Rattle.graph_check.specs.GraphEvidence.{graphTests}
+use Rattle.graph_check.specs.GraphSteps.{graphCode}
+use Rattle.graph_check.specs.GraphJoin.{graph-is}
+use Rattle.lists.specs.ListEvidence.{listTests}
+use Rattle.list_check.specs.CheckSteps.{listCode}
+use Rattle.list_check.specs.CheckJoin.{list-is}
+use Rattle.answers.specs.declared.Claim.the-variants.{Refused}
+use Rattle.answers.specs.Answers.{Answer, answer, wholly, ofClaim, HOLDS, FAILS, HOLDS-OF-NOTHING}
+use Rattle.claims.specs.declared.Pieces.{Pieces}
+use Rattle.claims.specs.declared.Pieces.the-variants.{ListAndGraph, GraphAlone, ListAlone, Misfit, Off}
+use Rattle.claims.specs.Claims.{subject, counterexample, claimTest, secondOf, pieces, piecesOf, kindsRefusal, shows, piecesTests, claimAnswer}
+
+-- C and not D as a set
+abbrev pub counterSet : ℕ → ℕ → ℕ
+counterSet c d = labelWith (labelWith 0 (opposed d)) c
+
+-- a literal of the table
+abbrev pub inTable : List ℕ → ℕ → Bool
+inTable cs l = ltb (l / 2) (length cs / 6)
+
+-- 2 to 8 of the tables, then 24 of the literals
+abbrev pub askedCode : List ℕ → List ℕ → List ℕ → List ℕ → ℕ → ℕ → Option Refusal
+askedCode rs cs qs a c d = refuse 0 (tablesTest rs cs qs a) (wholly (unless (inTable cs c && inTable cs d) 24 none))
+
+-- the kinds where the first piece is a graph, or a list, of any number of records
+abbrev pub afterGraph : List ℕ → Pieces
+afterGraph t = pieces (GraphOf 0) (secondOf t)
+
+abbrev pub afterList : List ℕ → Pieces
+afterList t = pieces (RefutationOf 0) (secondOf t)
+
+-- 10 to 20 of the pieces
+abbrev pub piecesCode : List ℕ → List ℕ → List ℕ → List ℕ → ℕ → ℕ → List ℕ → List ℕ → Pieces → Option Refusal
+piecesCode rs cs qs a c d s t ListAndGraph = firstOf (listCode rs cs qs a (counterSet c d) s) (graphCode rs cs qs a (labelWith 0 c) t)
+piecesCode rs cs qs a c d s t GraphAlone = graphCode rs cs qs a (counterSet c d) s
+piecesCode rs cs qs a c d s t ListAlone = listCode rs cs qs a (labelWith 0 c) s
+piecesCode rs cs qs a c d s t Misfit = none
+piecesCode rs cs qs a c d s t Off = none
+
+-- the answer that tests of the pieces end in
+abbrev pub endsIn : Pieces → Option Refusal → Answer
+endsIn p o = answer (shows p) (firstOf o (wholly (kindsRefusal p)))
+
+-- the answer on the three parts of a description
+unfoldable pub partsClaim : List ℕ → List ℕ → List ℕ → ℕ → ℕ → List ℕ → List ℕ → Answer
+partsClaim rs cs qs c d s t = let D = describe rs cs qs in let p = piecesOf s t in
+    answer (shows p) (refuse 0 (partsTest rs cs qs) (refuse 0 (claimTest D c d) (refuse 0 (kindsRefusal p) (piecesTests D c d s t p))))
+
+-- ---- laws for the code: the kinds
+-- the number of records does not matter
+pub graph-first : (s t : List ℕ) (n : ℕ) → GraphOf n ≡ headOf s → afterGraph t ≡ piecesOf s t
+unfolding pieces
+graph-first s t n e = go (secondOf t) ∙ ap (λ h. pieces h (secondOf t)) e
+  where
+    go : (o : Option Head) → pieces (GraphOf 0) o ≡ pieces (GraphOf n) o
+    go none = refl
+    go (some Heads.the-variants.Off) = refl
+    go (some (GraphOf m)) = refl
+    go (some (RefutationOf m)) = refl
+
+pub list-first : (s t : List ℕ) (n : ℕ) → RefutationOf n ≡ headOf s → afterList t ≡ piecesOf s t
+unfolding pieces
+list-first s t n e = go (secondOf t) ∙ ap (λ h. pieces h (secondOf t)) e
+  where
+    go : (o : Option Head) → pieces (RefutationOf 0) o ≡ pieces (RefutationOf n) o
+    go none = refl
+    go (some Heads.the-variants.Off) = refl
+    go (some (GraphOf m)) = refl
+    go (some (RefutationOf m)) = refl
+
+pub off-first : (s t : List ℕ) → Heads.the-variants.Off ≡ headOf s → Off ≡ piecesOf s t
+unfolding pieces
+off-first s t e = ap (λ h. pieces h (secondOf t)) e
+
+-- no second piece, or one with the head k
+pub second-none : (h : Head) (t : List ℕ) → length t ≡ 0 → pieces h none ≡ pieces h (secondOf t)
+second-none h t e = rw e refl
+
+pub second-some : (h k : Head) (t : List ℕ) → (length t ≡ 0 → ⊥) → k ≡ headOf t → pieces h (some k) ≡ pieces h (secondOf t)
+second-some h k t n e = rw (ne-eqb (length t) 0 n, e) refl
+
+-- ---- the code's tests are the claim's
+half : (l : ℕ) → l / 2 ≡ entryOf (literal l)
+half l = go (literal l) (code-literal l)
+  where
+    go : (x : Literal) → code x ≡ l → l / 2 ≡ entryOf x
+    go (pos n) e = omega arith
+    go (neg n) e = omega arith
+
+-- of two tests and the rest, the first two taken together
+first-two : (o x : Option ℕ) (later : Option Refusal) → firstOf (refuse 0 o (wholly x)) later ≡ refuse 0 o (refuse 0 x later)
+first-two none none later = refl
+first-two none (some m) later = refl
+first-two (some n) x later = refl
+
+-- nothing after
+first-none : (o : Option Refusal) → firstOf o none ≡ o
+first-none none = refl
+first-none (some z) = refl
+
+-- kinds that fit no answer are refused, whatever is asked of the pieces
+ends-by-kind : (f : Pieces → Option Refusal) → f Misfit ≡ none → f Off ≡ none → (p : Pieces) → endsIn p (f p) ≡ answer (shows p) (refuse 0 (kindsRefusal p) (f p))
+ends-by-kind f m o ListAndGraph = ap (answer HOLDS) (first-none (f ListAndGraph))
+ends-by-kind f m o GraphAlone = ap (answer FAILS) (first-none (f GraphAlone))
+ends-by-kind f m o ListAlone = ap (answer HOLDS-OF-NOTHING) (first-none (f ListAlone))
+ends-by-kind f m o Misfit = rw m refl
+ends-by-kind f m o Off = rw o refl
+
+module _ (rs cs qs a : List ℕ) (c d : ℕ) (s t : List ℕ) (anc : AncestorsOf rs a) where
+  module _ (fine : partsTest rs cs qs ≡ none) where
+    literals-are : (inTable cs c && inTable cs d) ≡ (literalTest (describe rs cs qs) (literal c) && literalTest (describe rs cs qs) (literal d))
+    literals-are = rw (half c, half d) refl
+
+    module _ (c-in : entryOf (literal c) < length cs / 6) (d-in : entryOf (literal d) < length cs / 6) where
+      few : length cs / 6 ≤ 32
+      few = parts-accepted rs cs qs fine .1
+
+      -- C put into a set, and the two sets that are wanted
+      put-c : (N : ℕ) → labelWith N c ≡ adding N (literal c)
+      put-c N = ap (labelWith N) (sym (code-literal c)) ∙ put-is (length cs / 6) N (literal c) few c-in
+
+      subject-set : labelWith 0 c ≡ literalSet (subject c)
+      unfolding literalSet
+      subject-set = put-c 0
+
+      counter-set : counterSet c d ≡ literalSet (counterexample c d)
+      unfolding literalSet
+      counter-set = ap (λ N. labelWith N c) (put-is (length cs / 6) 0 (opposite (literal d)) few (rw (entryOf-opposite (literal d)) d-in)) ∙ put-c _
+
+      list : (W : List Literal) (N : ℕ) (x : List ℕ) → N ≡ literalSet W → listCode rs cs qs a N x ≡ listTests (describe rs cs qs) W x
+      list W N x e = let k = parts-accepted rs cs qs fine in
+          ap (λ M. listCode rs cs qs a M x) e ∙ list-is rs cs qs a W x anc (k .0) (k .1) (k .2)
+
+      graph : (W : List Literal) (N : ℕ) (x : List ℕ) → N ≡ literalSet W → graphCode rs cs qs a N x ≡ graphTests (describe rs cs qs) W x
+      graph W N x e = ap (λ M. graphCode rs cs qs a M x) e ∙ graph-is rs cs qs a W x anc fine
+
+      pieces-are : (p : Pieces) → piecesCode rs cs qs a c d s t p ≡ piecesTests (describe rs cs qs) c d s t p
+      pieces-are ListAndGraph = ap₂ firstOf (list (counterexample c d) _ s counter-set) (graph (subject c) _ t subject-set)
+      pieces-are GraphAlone = graph (counterexample c d) _ s counter-set
+      pieces-are ListAlone = list (subject c) _ s subject-set
+      pieces-are Misfit = refl
+      pieces-are Off = refl
+
+    -- after 2 to 8
+    rest-is : (p : Pieces) → refuse 0 (unless (inTable cs c && inTable cs d) 24 none) (refuse 0 (kindsRefusal p) (piecesCode rs cs qs a c d s t p))
+        ≡ refuse 0 (claimTest (describe rs cs qs) c d) (refuse 0 (kindsRefusal p) (piecesTests (describe rs cs qs) c d s t p))
+    rest-is p = ap (λ b. refuse 0 (unless b 24 none) (refuse 0 (kindsRefusal p) (piecesCode rs cs qs a c d s t p))) literals-are
+        ∙ refuse-then 0 (claimTest (describe rs cs qs) c d) _ _ (λ e. let h = unless↔ _ 24 none .0 e .0 in
+        ap (refuse 0 (kindsRefusal p)) (pieces-are (so-ltb _ _ (and-l _ _ h)) (so-ltb _ _ (and-r (literalTest (describe rs cs qs) (literal c)) _ h)) p))
+
+  module _ (p : Pieces) (q : p ≡ piecesOf s t) where
+    joined : answer (shows p) (firstOf (askedCode rs cs qs a c d) (refuse 0 (kindsRefusal p) (piecesCode rs cs qs a c d s t p))) ≡ partsClaim rs cs qs c d s t
+    unfolding partsClaim
+    joined = ap (answer (shows p)) (first-two (tablesTest rs cs qs a) (unless (inTable cs c && inTable cs d) 24 none) (refuse 0 (kindsRefusal p) (piecesCode rs cs qs a c d s t p))
+        ∙ ap (λ o. refuse 0 o (refuse 0 (unless (inTable cs c && inTable cs d) 24 none) (refuse 0 (kindsRefusal p) (piecesCode rs cs qs a c d s t p)))) (tables-are rs cs qs a anc)
+        ∙ refuse-then 0 (partsTest rs cs qs) _ _ (λ fine. rest-is fine p))
+        ∙ ap (λ p. answer (shows p) (refuse 0 (partsTest rs cs qs) (refuse 0 (claimTest (describe rs cs qs) c d)
+        (refuse 0 (kindsRefusal p) (piecesTests (describe rs cs qs) c d s t p))))) q
+
+    -- 2 to 8, or 24 of the literals, refuse
+    pub asked-stops : (z : Refusal) → askedCode rs cs qs a c d ≡ some z → endsIn p (some z) ≡ partsClaim rs cs qs c d s t
+    asked-stops z e = sym (ap (λ o. answer (shows p) (firstOf o (refuse 0 (kindsRefusal p) (piecesCode rs cs qs a c d s t p)))) e) ∙ joined
+
+    -- they do not, and the pieces come to o
+    pub pieces-end : askedCode rs cs qs a c d ≡ none → (o : Option Refusal) → o ≡ piecesCode rs cs qs a c d s t p → endsIn p o ≡ partsClaim rs cs qs c d s t
+    pieces-end e o h = ap (endsIn p) h ∙ ends-by-kind (piecesCode rs cs qs a c d s t) refl refl p
+        ∙ sym (ap (λ x. answer (shows p) (firstOf x (refuse 0 (kindsRefusal p) (piecesCode rs cs qs a c d s t p)))) e) ∙ joined
+
+-- a list and then a graph: the list is refused, or it is not
+module _ (rs cs qs a : List ℕ) (c d : ℕ) (s t : List ℕ) (p : Pieces) (q : p ≡ ListAndGraph) where
+  pub list-stops : (z : Refusal) → listCode rs cs qs a (counterSet c d) s ≡ some z → some z ≡ piecesCode rs cs qs a c d s t p
+  list-stops z e = rw (q, e) refl
+
+  pub list-on : listCode rs cs qs a (counterSet c d) s ≡ none → graphCode rs cs qs a (labelWith 0 c) t ≡ piecesCode rs cs qs a c d s t p
+  list-on e = rw (q, e) refl
+
+-- ---- the directory comes first
+module _ (d : List ℕ) (c e : ℕ) (s t : List ℕ) where
+  pub directory-told : directoryTest d ≡ false → ofClaim (Refused 1 0) ≡ claimAnswer d c e s t
+  unfolding claimAnswer bytesTest
+  directory-told h = rw h refl
+
+  pub directory-on : (rs cs qs : List ℕ) → directoryTest d ≡ true → rs ≡ rolesPart d → cs ≡ conceptsPart d → qs ≡ queryPart d
+      → partsClaim rs cs qs c e s t ≡ claimAnswer d c e s t
+  unfolding partsClaim claimAnswer bytesTest
+  directory-on rs cs qs h p q r = rw (p, q, r, h) refl

@@ -1,0 +1,163 @@
+// The answer on a claim "every C is D" with one or two pieces of evidence.
+ghost use mathlib.Core.Path.{_≡_};
+ghost use Rattle.labels.specs.Labels.{valueOf};
+ghost use Rattle.answers.specs.Answers.{refusalOf, ofClaim};
+ghost use Rattle.claims.specs.Claims.{piecesOf, claimAnswer};
+ghost use Rattle.claims.specs.ClaimSteps.{counterSet, inTable, askedCode, afterGraph, afterList, endsIn, partsClaim};
+use answers::Claim;
+use answers::Tested;
+use evidence::Head;
+use evidence::read_head;
+use graph_check::test_graph;
+use intake::directory_ok;
+use intake::test_tables;
+use labels::Label;
+use labels::only;
+use labels::put;
+use list_check::test_list;
+use nodes::opposite;
+use parts::part;
+use roles::ancestors;
+
+// The two literals of a claim, by number.
+pub struct Inclusion {
+    pub c: u8,
+    pub d: u8,
+}
+
+// Two pieces of evidence by their kinds, in the order given; the second may be empty.
+pub enum Pieces {
+    ListAndGraph,
+    GraphAlone,
+    ListAlone,
+    Misfit,
+    Off,
+}
+
+// The kinds where the first piece is a graph.
+fn after_graph(second: &[u8]) -> Pieces
+    ensures { λ r. ⌜ r ≡ afterGraph (now (second .entry)) ⌝ }
+{
+    if second.len() == 0 {
+        return Pieces::GraphAlone;
+    }
+    let head = read_head(second);
+    match head {
+        Head::Off => Pieces::Off,
+        Head::GraphOf(_) => Pieces::Misfit,
+        Head::RefutationOf(_) => Pieces::Misfit,
+    }
+}
+
+// The kinds where the first piece is a list.
+fn after_list(second: &[u8]) -> Pieces
+    ensures { λ r. ⌜ r ≡ afterList (now (second .entry)) ⌝ }
+{
+    if second.len() == 0 {
+        return Pieces::ListAlone;
+    }
+    let head = read_head(second);
+    match head {
+        Head::Off => Pieces::Off,
+        Head::GraphOf(_) => Pieces::ListAndGraph,
+        Head::RefutationOf(_) => Pieces::Misfit,
+    }
+}
+
+// The kinds of the two pieces.
+fn kinds(first: &[u8], second: &[u8]) -> Pieces
+    ensures { λ r. ⌜ r ≡ piecesOf (now (first .entry)) (now (second .entry)) ⌝ }
+{
+    let head = read_head(first);
+    match head {
+        Head::Off => Pieces::Off,
+        Head::GraphOf(_) => after_graph(second),
+        Head::RefutationOf(_) => after_list(second),
+    }
+}
+
+// What is wanted of an element that breaks the claim: C and not D.
+fn counterexample(k: Inclusion) -> Label
+    ensures { λ r. ⌜ valueOf r ≡ counterSet (k .c) (k .d) ⌝ }
+{
+    put(only(opposite(k.d)), k.c)
+}
+
+// Whether `l` is a literal of the table.
+fn in_table(cs: &[u8], l: u8) -> bool
+    ensures { λ r. ⌜ r ≡ inTable (now (cs .entry)) l ⌝ }
+{
+    ((l / 2) as usize) < cs.len() / 6
+}
+
+// Tests 2 to 8 of the tables, then 24 of the literals.
+fn test_asked(rs: &[u8], cs: &[u8], qs: &[u8], a: [u16; 16], k: Inclusion) -> Tested
+    ensures { λ r. ⌜ refusalOf r ≡ askedCode (now (rs .entry)) (now (cs .entry)) (now (qs .entry)) a (k .c) (k .d) ⌝ }
+{
+    let t = test_tables(rs, cs, qs, a);
+    let Tested::Fine = t else {
+        return t;
+    };
+    if !(in_table(cs, k.c) & in_table(cs, k.d)) {
+        return Tested::Refused(24, 0);
+    }
+    Tested::Fine
+}
+
+// The answer that tests of pieces of these kinds end in.
+fn told(t: Tested, p: Pieces) -> Claim
+    ensures { λ r. ⌜ ofClaim r ≡ endsIn p (refusalOf t) ⌝ }
+{
+    match t {
+        Tested::Refused(n, i) => Claim::Refused(n, i),
+        Tested::Fine => match p {
+            Pieces::ListAndGraph => Claim::Holds,
+            Pieces::GraphAlone => Claim::Fails,
+            Pieces::ListAlone => Claim::HoldsOfNothing,
+            Pieces::Misfit => Claim::Refused(24, 0),
+            Pieces::Off => Claim::Refused(9, 0),
+        },
+    }
+}
+
+// The answer on the parts of a description with a claim.
+fn check_parts(rs: &[u8], cs: &[u8], qs: &[u8], k: Inclusion, first: &[u8], second: &[u8]) -> Claim
+    ensures { λ r. ⌜ ofClaim r ≡ partsClaim (now (rs .entry)) (now (cs .entry)) (now (qs .entry)) (k .c) (k .d) (now (first .entry)) (now (second .entry)) ⌝ }
+{
+    let a = ancestors(rs);
+    let p = kinds(first, second);
+    let t = test_asked(rs, cs, qs, a, k);
+    let Tested::Fine = t else {
+        return told(t, p);
+    };
+    match p {
+        Pieces::ListAndGraph => {
+            let u = test_list(rs, cs, qs, a, counterexample(k), first);
+            let Tested::Fine = u else {
+                return told(u, p);
+            };
+            told(test_graph(rs, cs, qs, a, only(k.c), second), p)
+        }
+        Pieces::GraphAlone => told(test_graph(rs, cs, qs, a, counterexample(k), first), p),
+        Pieces::ListAlone => told(test_list(rs, cs, qs, a, only(k.c), first), p),
+        Pieces::Misfit => told(t, p),
+        Pieces::Off => told(t, p),
+    }
+}
+
+// The answer on a claim, for slices of every length and literals of every number.
+pub fn check_claim(description: &[u8], c: u8, d: u8, first: &[u8], second: &[u8]) -> Claim
+    ensures { λ r. ⌜ ofClaim r ≡ claimAnswer (now (description .entry)) c d (now (first .entry)) (now (second .entry)) ⌝ }
+{
+    if !directory_ok(description) {
+        return Claim::Refused(1, 0);
+    }
+    check_parts(
+        part(description, 0, 0),
+        part(description, 0, 1),
+        part(description, 0, 2),
+        Inclusion { c: c, d: d },
+        first,
+        second,
+    )
+}

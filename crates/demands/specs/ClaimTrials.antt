@@ -1,0 +1,77 @@
+-- Claims byte by byte, on both sides of each clause (02, job 1).
+use Prim.Native.Nat.{ℕ}
+use mathlib.Core.Path.{_≡_, refl}
+use mathlib.Core.List.{List, [], _∷_, map}
+use Rattle.answers.specs.Answers.{REFUSED, HOLDS, FAILS, HOLDS-OF-NOTHING}
+use Rattle.demands.specs.Trials.{Trial, judges, Outcome, tells, outcome, told}
+
+-- one role, the entry top, and a root; the same with a name, which is literal 2
+abbrev top : ℕ → List ℕ
+top root = 0 ∷ 12 ∷ 0 ∷ 3 ∷ 0 ∷ 15 ∷ 0 ∷ 6 ∷ 0 ∷ 21 ∷ 0 ∷ 1 ∷ 0 ∷ 0 ∷ 0 ∷ 0 ∷ 0 ∷ 0 ∷ 0 ∷ 0 ∷ 0 ∷ root ∷ []
+
+abbrev named : List ℕ
+named =
+    0 ∷ 12 ∷ 0 ∷ 3 ∷ 0 ∷ 15 ∷ 0 ∷ 12 ∷ 0 ∷ 27 ∷ 0 ∷ 1
+    ∷ 0 ∷ 0 ∷ 0 ∷ 0 ∷ 0 ∷ 0 ∷ 0 ∷ 0 ∷ 0 ∷ 1 ∷ 0 ∷ 0 ∷ 0 ∷ 0 ∷ 0 ∷ 0 ∷ []
+
+-- lists: {1}, and {2, 3}, by step 1
+abbrev bottom : List ℕ
+bottom = 2 ∷ 1 ∷ 0 ∷ 6 ∷ 0 ∷ 10 ∷ 0 ∷ 0 ∷ 0 ∷ 0 ∷ 0 ∷ 0 ∷ 0 ∷ 2 ∷ 1 ∷ 1 ∷ []
+
+abbrev clash : List ℕ
+clash = 2 ∷ 1 ∷ 0 ∷ 6 ∷ 0 ∷ 10 ∷ 0 ∷ 0 ∷ 0 ∷ 0 ∷ 0 ∷ 0 ∷ 0 ∷ 12 ∷ 1 ∷ 2 ∷ []
+
+-- graphs: a node {0}; a node {0, 2}, alone and before a node {0}; a node of no bytes; the first with its last byte cut off
+abbrev plain : List ℕ
+plain = 1 ∷ 1 ∷ 0 ∷ 6 ∷ 0 ∷ 8 ∷ 0 ∷ 0 ∷ 0 ∷ 0 ∷ 0 ∷ 0 ∷ 0 ∷ 1 ∷ []
+
+abbrev bearing : List ℕ
+bearing = 1 ∷ 1 ∷ 0 ∷ 6 ∷ 0 ∷ 8 ∷ 0 ∷ 0 ∷ 0 ∷ 0 ∷ 0 ∷ 0 ∷ 0 ∷ 5 ∷ []
+
+abbrev bearingFirst : List ℕ
+bearingFirst =
+    1 ∷ 2 ∷ 0 ∷ 10 ∷ 0 ∷ 8 ∷ 0 ∷ 18 ∷ 0 ∷ 8
+    ∷ 0 ∷ 0 ∷ 0 ∷ 0 ∷ 0 ∷ 0 ∷ 0 ∷ 5 ∷ 0 ∷ 0 ∷ 0 ∷ 0 ∷ 0 ∷ 0 ∷ 0 ∷ 1 ∷ []
+
+abbrev formless : List ℕ
+formless = 1 ∷ 1 ∷ 0 ∷ 6 ∷ 0 ∷ 0 ∷ []
+
+abbrev cut : List ℕ
+cut = 1 ∷ 1 ∷ 0 ∷ 6 ∷ 0 ∷ 8 ∷ 0 ∷ 0 ∷ 0 ∷ 0 ∷ 0 ∷ 0 ∷ 0 ∷ []
+
+-- the three answers; what each wants of its pieces
+unfoldable pub answers : List (Trial × Outcome)
+answers =
+    (judges (top 0) 0 0 bottom plain, tells (told HOLDS 0 0))
+    ∷ (judges named 2 2 clash bearing, tells (told HOLDS 0 0))
+    ∷ (judges named 2 2 clash bearingFirst, tells (told HOLDS 0 0))
+    ∷ (judges named 0 2 clash plain, tells (told REFUSED 20 0))
+    ∷ (judges named 2 2 clash plain, tells (told REFUSED 11 0))
+    ∷ (judges (top 0) 0 1 plain [], tells (told FAILS 0 0))
+    ∷ (judges named 0 2 plain [], tells (told REFUSED 11 0))
+    ∷ (judges named 2 1 plain [], tells (told REFUSED 11 0))
+    ∷ (judges (top 0) 1 0 bottom [], tells (told HOLDS-OF-NOTHING 0 0))
+    ∷ (judges named 2 2 clash [], tells (told REFUSED 20 0))
+    ∷ []
+
+-- the order of the tests: 8, though the root is not used; 24 of the literals; 9 of either piece; 24 of the kinds; the first piece whole
+unfoldable pub orders : List (Trial × Outcome)
+orders =
+    (judges (top 1) 0 1 plain [], tells (told FAILS 0 0))
+    ∷ (judges (top 2) 2 0 [] [], tells (told REFUSED 8 0))
+    ∷ (judges (top 0) 2 0 [] [], tells (told REFUSED 24 0))
+    ∷ (judges (top 0) 0 255 [] [], tells (told REFUSED 24 0))
+    ∷ (judges (top 0) 0 0 [] [], tells (told REFUSED 9 0))
+    ∷ (judges (top 0) 0 0 [] plain, tells (told REFUSED 9 0))
+    ∷ (judges (top 0) 0 1 plain cut, tells (told REFUSED 9 0))
+    ∷ (judges (top 0) 0 0 plain bottom, tells (told REFUSED 24 0))
+    ∷ (judges (top 0) 0 0 bottom bottom, tells (told REFUSED 24 0))
+    ∷ (judges (top 0) 0 1 formless plain, tells (told REFUSED 24 0))
+    ∷ (judges (top 0) 0 1 formless [], tells (told REFUSED 10 0))
+    ∷ (judges named 0 2 clash formless, tells (told REFUSED 20 0))
+    ∷ (judges named 2 2 clash formless, tells (told REFUSED 10 0))
+    ∷ []
+
+pub claims-hold : (map (λ t. outcome (t .0)) answers ≡ map (λ t. t .1) answers) × (map (λ t. outcome (t .0)) orders ≡ map (λ t. t .1) orders)
+unfolding answers orders outcome
+claims-hold = (refl, refl)
