@@ -8,7 +8,7 @@ use Rattle.logic.specs.Refusals.{Refusal, refuse}
 use Rattle.answers.specs.declared.Tested.{Tested}
 use Rattle.answers.specs.declared.Tested.the-variants.{Fine, Refused}
 use Rattle.answers.specs.declared.Verdict as Verdicts
-use Rattle.answers.specs.declared.Claim as Claims
+use Rattle.answers.specs.declared.Judgement as Judgements
 use Rattle.answers.specs.declared.Written as Writings
 use Rattle.answers.specs.declared.Reading as Readings
 
@@ -52,11 +52,11 @@ ofVerdict Verdicts.the-variants.Inhabited = answer INHABITED none
 ofVerdict Verdicts.the-variants.Empty = answer EMPTY none
 ofVerdict (Verdicts.the-variants.Refused n r) = answer REFUSED (some (record { number = n; place = r }))
 
-abbrev pub ofClaim : Claims.Claim → Answer
-ofClaim Claims.the-variants.Holds = answer HOLDS none
-ofClaim Claims.the-variants.Fails = answer FAILS none
-ofClaim Claims.the-variants.HoldsOfNothing = answer HOLDS-OF-NOTHING none
-ofClaim (Claims.the-variants.Refused n r) = answer REFUSED (some (record { number = n; place = r }))
+abbrev pub ofJudgement : Judgements.Judgement → Answer
+ofJudgement Judgements.the-variants.Holds = answer HOLDS none
+ofJudgement Judgements.the-variants.Fails = answer FAILS none
+ofJudgement Judgements.the-variants.HoldsOfNothing = answer HOLDS-OF-NOTHING none
+ofJudgement (Judgements.the-variants.Refused n r) = answer REFUSED (some (record { number = n; place = r }))
 
 abbrev pub ofWritten : Writings.Written → Answer
 ofWritten (Writings.the-variants.Line n) = answer WRITTEN none
@@ -98,25 +98,25 @@ fails↔ Readings.the-variants.Holds = (λ e. absurd (let w = ap (λ (x : Answer
 fails↔ (Readings.the-variants.Refused n r) = (λ e. absurd (let w = ap (λ (x : Answer). x .word) e in let z : _≡_ {A = ℕ} 0 1 = cc in omega arith), λ e. absurd (let z : _≡_ {A = ℕ} 0 1 = cc in omega arith))
 
 -- the case of an answer on a claim, from what is told of it
-abbrev claimOf : Answer → Claims.Claim
-claimOf a = elim (a .word) [
-  | REFUSED ↦ Claims.the-variants.Refused (a .number) (a .place)
-  | INHABITED ↦ Claims.the-variants.Refused 0 0
-  | EMPTY ↦ Claims.the-variants.Refused 0 0
-  | WRITTEN ↦ Claims.the-variants.Refused 0 0
-  | HOLDS ↦ Claims.the-variants.Holds
-  | FAILS ↦ Claims.the-variants.Fails
-  | HOLDS-OF-NOTHING ↦ Claims.the-variants.HoldsOfNothing
+abbrev judgementOf : Answer → Judgements.Judgement
+judgementOf a = elim (a .word) [
+  | REFUSED ↦ Judgements.the-variants.Refused (a .number) (a .place)
+  | INHABITED ↦ Judgements.the-variants.Refused 0 0
+  | EMPTY ↦ Judgements.the-variants.Refused 0 0
+  | WRITTEN ↦ Judgements.the-variants.Refused 0 0
+  | HOLDS ↦ Judgements.the-variants.Holds
+  | FAILS ↦ Judgements.the-variants.Fails
+  | HOLDS-OF-NOTHING ↦ Judgements.the-variants.HoldsOfNothing
 ]
 
-claim-back : (v : Claims.Claim) → claimOf (ofClaim v) ≡ v
-claim-back Claims.the-variants.Holds = refl
-claim-back Claims.the-variants.Fails = refl
-claim-back Claims.the-variants.HoldsOfNothing = refl
-claim-back (Claims.the-variants.Refused n r) = refl
+judgement-back : (v : Judgements.Judgement) → judgementOf (ofJudgement v) ≡ v
+judgement-back Judgements.the-variants.Holds = refl
+judgement-back Judgements.the-variants.Fails = refl
+judgement-back Judgements.the-variants.HoldsOfNothing = refl
+judgement-back (Judgements.the-variants.Refused n r) = refl
 
-pub claim↔ : (v w : Claims.Claim) → (ofClaim v ≡ ofClaim w) ↔ (v ≡ w)
-claim↔ v w = (λ e. sym (claim-back v) ∙ ap claimOf e ∙ claim-back w, ap ofClaim)
+pub judgement↔ : (v w : Judgements.Judgement) → (ofJudgement v ≡ ofJudgement w) ↔ (v ≡ w)
+judgement↔ v w = (λ e. sym (judgement-back v) ∙ ap judgementOf e ∙ judgement-back w, ap ofJudgement)
 
 -- a function that answers as the definition says answers a case exactly when the definition tells its word
 pub case-when : {A B : Type 0} (x y z : Answer) → x ≡ y → (x ≡ z) ↔ A → (y ≡ z) ↔ B → A ↔ B

@@ -14,7 +14,7 @@ pub enum Verdict {
 }
 
 // The answer on a claim "every C is D".
-pub enum Claim {
+pub enum Judgement {
     Holds,
     Fails,
     HoldsOfNothing,

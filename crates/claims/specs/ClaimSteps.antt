@@ -8,9 +8,9 @@ use native.Mathlib.Omega.{arith}
 use borrow.Author.Tests.{ne-eqb}
 use lib.Dec.{ltb}
 use lib.ListN.{length}
-use Rattle.logic.specs.Tests.{So, and-l, and-r, so-ltb}
+use Rattle.logic.specs.Tests.{and-l, and-r, so-ltb}
 use Rattle.logic.specs.Refusals.{Refusal, unless, unless↔, refuse, refuse-then, firstOf}
-use Rattle.description.specs.Literals.{Literal, pos, neg, literal, opposite, code, entryOf, adding, literalSet, code-literal, entryOf-opposite}
+use Rattle.description.specs.Literals.{Literal, pos, neg, literal, opposite, code, entryOf, adding, literalSet, code-literal, literal-code, entryOf-opposite}
 use Rattle.description.specs.Acceptance.{literalTest}
 use Rattle.tables.specs.Tables.{describe}
 use Rattle.labels.specs.Labels.{labelWith}
@@ -28,8 +28,8 @@ use Rattle.graph_check.specs.GraphJoin.{graph-is}
 use Rattle.lists.specs.ListEvidence.{listTests}
 use Rattle.list_check.specs.CheckSteps.{listCode}
 use Rattle.list_check.specs.CheckJoin.{list-is}
-use Rattle.answers.specs.declared.Claim.the-variants.{Refused}
-use Rattle.answers.specs.Answers.{Answer, answer, wholly, ofClaim, HOLDS, FAILS, HOLDS-OF-NOTHING}
+use Rattle.answers.specs.declared.Judgement.the-variants.{Refused}
+use Rattle.answers.specs.Answers.{Answer, answer, wholly, ofJudgement, HOLDS, FAILS, HOLDS-OF-NOTHING}
 use Rattle.claims.specs.declared.Pieces.{Pieces}
 use Rattle.claims.specs.declared.Pieces.the-variants.{ListAndGraph, GraphAlone, ListAlone, Misfit, Off}
 use Rattle.claims.specs.Claims.{subject, counterexample, claimTest, secondOf, pieces, piecesOf, kindsRefusal, shows, piecesTests, claimAnswer}
@@ -123,7 +123,8 @@ first-none none = refl
 first-none (some z) = refl
 
 -- kinds that fit no answer are refused, whatever is asked of the pieces
-ends-by-kind : (f : Pieces → Option Refusal) → f Misfit ≡ none → f Off ≡ none → (p : Pieces) → endsIn p (f p) ≡ answer (shows p) (refuse 0 (kindsRefusal p) (f p))
+ends-by-kind : (f : Pieces → Option Refusal) → f Misfit ≡ none → f Off ≡ none → (p : Pieces)
+    → endsIn p (f p) ≡ answer (shows p) (refuse 0 (kindsRefusal p) (f p))
 ends-by-kind f m o ListAndGraph = ap (answer HOLDS) (first-none (f ListAndGraph))
 ends-by-kind f m o GraphAlone = ap (answer FAILS) (first-none (f GraphAlone))
 ends-by-kind f m o ListAlone = ap (answer HOLDS-OF-NOTHING) (first-none (f ListAlone))
@@ -131,8 +132,16 @@ ends-by-kind f m o Misfit = rw m refl
 ends-by-kind f m o Off = rw o refl
 
 module _ (rs cs qs a : List ℕ) (c d : ℕ) (s t : List ℕ) (anc : AncestorsOf rs a) where
+  -- 24 of the literals; then 9 and 24 of the pieces, and 10 to 20
+  abbrev literals : Option ℕ
+  literals = unless (inTable cs c && inTable cs d) 24 none
+
+  abbrev coded : Pieces → Option Refusal
+  coded p = refuse 0 (kindsRefusal p) (piecesCode rs cs qs a c d s t p)
+
   module _ (fine : partsTest rs cs qs ≡ none) where
-    literals-are : (inTable cs c && inTable cs d) ≡ (literalTest (describe rs cs qs) (literal c) && literalTest (describe rs cs qs) (literal d))
+    literals-are : (inTable cs c && inTable cs d)
+        ≡ (literalTest (describe rs cs qs) (literal c) && literalTest (describe rs cs qs) (literal d))
     literals-are = rw (half c, half d) refl
 
     module _ (c-in : entryOf (literal c) < length cs / 6) (d-in : entryOf (literal d) < length cs / 6) where
@@ -141,7 +150,7 @@ module _ (rs cs qs a : List ℕ) (c d : ℕ) (s t : List ℕ) (anc : AncestorsOf
 
       -- C put into a set, and the two sets that are wanted
       put-c : (N : ℕ) → labelWith N c ≡ adding N (literal c)
-      put-c N = ap (labelWith N) (sym (code-literal c)) ∙ put-is (length cs / 6) N (literal c) few c-in
+      put-c N = put-is (length cs / 6) N c few c-in
 
       subject-set : labelWith 0 c ≡ literalSet (subject c)
       unfolding literalSet
@@ -149,7 +158,9 @@ module _ (rs cs qs a : List ℕ) (c d : ℕ) (s t : List ℕ) (anc : AncestorsOf
 
       counter-set : counterSet c d ≡ literalSet (counterexample c d)
       unfolding literalSet
-      counter-set = ap (λ N. labelWith N c) (put-is (length cs / 6) 0 (opposite (literal d)) few (rw (entryOf-opposite (literal d)) d-in)) ∙ put-c _
+      counter-set = let e = literal-code (opposite (literal d)) in
+          ap (λ N. labelWith N c)
+          (put-is (length cs / 6) 0 (opposed d) few (rw (e, entryOf-opposite (literal d)) d-in) ∙ ap (adding 0) e) ∙ put-c _
 
       list : (W : List Literal) (N : ℕ) (x : List ℕ) → N ≡ literalSet W → listCode rs cs qs a N x ≡ listTests (describe rs cs qs) W x
       list W N x e = let k = parts-accepted rs cs qs fine in
@@ -166,29 +177,31 @@ module _ (rs cs qs a : List ℕ) (c d : ℕ) (s t : List ℕ) (anc : AncestorsOf
       pieces-are Off = refl
 
     -- after 2 to 8
-    rest-is : (p : Pieces) → refuse 0 (unless (inTable cs c && inTable cs d) 24 none) (refuse 0 (kindsRefusal p) (piecesCode rs cs qs a c d s t p))
+    rest-is : (p : Pieces) → refuse 0 literals (coded p)
         ≡ refuse 0 (claimTest (describe rs cs qs) c d) (refuse 0 (kindsRefusal p) (piecesTests (describe rs cs qs) c d s t p))
-    rest-is p = ap (λ b. refuse 0 (unless b 24 none) (refuse 0 (kindsRefusal p) (piecesCode rs cs qs a c d s t p))) literals-are
+    rest-is p = ap (λ b. refuse 0 (unless b 24 none) (coded p)) literals-are
         ∙ refuse-then 0 (claimTest (describe rs cs qs) c d) _ _ (λ e. let h = unless↔ _ 24 none .0 e .0 in
-        ap (refuse 0 (kindsRefusal p)) (pieces-are (so-ltb _ _ (and-l _ _ h)) (so-ltb _ _ (and-r (literalTest (describe rs cs qs) (literal c)) _ h)) p))
+        let c-in = so-ltb _ _ (and-l _ _ h) in let d-in = so-ltb _ _ (and-r (literalTest (describe rs cs qs) (literal c)) _ h) in
+        ap (refuse 0 (kindsRefusal p)) (pieces-are c-in d-in p))
 
   module _ (p : Pieces) (q : p ≡ piecesOf s t) where
-    joined : answer (shows p) (firstOf (askedCode rs cs qs a c d) (refuse 0 (kindsRefusal p) (piecesCode rs cs qs a c d s t p))) ≡ partsClaim rs cs qs c d s t
+    joined : answer (shows p) (firstOf (askedCode rs cs qs a c d) (coded p)) ≡ partsClaim rs cs qs c d s t
     unfolding partsClaim
-    joined = ap (answer (shows p)) (first-two (tablesTest rs cs qs a) (unless (inTable cs c && inTable cs d) 24 none) (refuse 0 (kindsRefusal p) (piecesCode rs cs qs a c d s t p))
-        ∙ ap (λ o. refuse 0 o (refuse 0 (unless (inTable cs c && inTable cs d) 24 none) (refuse 0 (kindsRefusal p) (piecesCode rs cs qs a c d s t p)))) (tables-are rs cs qs a anc)
+    joined = ap (answer (shows p)) (first-two (tablesTest rs cs qs a) literals (coded p)
+        ∙ ap (λ o. refuse 0 o (refuse 0 literals (coded p))) (tables-are rs cs qs a anc)
         ∙ refuse-then 0 (partsTest rs cs qs) _ _ (λ fine. rest-is fine p))
         ∙ ap (λ p. answer (shows p) (refuse 0 (partsTest rs cs qs) (refuse 0 (claimTest (describe rs cs qs) c d)
         (refuse 0 (kindsRefusal p) (piecesTests (describe rs cs qs) c d s t p))))) q
 
     -- 2 to 8, or 24 of the literals, refuse
     pub asked-stops : (z : Refusal) → askedCode rs cs qs a c d ≡ some z → endsIn p (some z) ≡ partsClaim rs cs qs c d s t
-    asked-stops z e = sym (ap (λ o. answer (shows p) (firstOf o (refuse 0 (kindsRefusal p) (piecesCode rs cs qs a c d s t p)))) e) ∙ joined
+    asked-stops z e = sym (ap (λ o. answer (shows p) (firstOf o (coded p))) e) ∙ joined
 
     -- they do not, and the pieces come to o
-    pub pieces-end : askedCode rs cs qs a c d ≡ none → (o : Option Refusal) → o ≡ piecesCode rs cs qs a c d s t p → endsIn p o ≡ partsClaim rs cs qs c d s t
+    pub pieces-end : askedCode rs cs qs a c d ≡ none → (o : Option Refusal) → o ≡ piecesCode rs cs qs a c d s t p
+        → endsIn p o ≡ partsClaim rs cs qs c d s t
     pieces-end e o h = ap (endsIn p) h ∙ ends-by-kind (piecesCode rs cs qs a c d s t) refl refl p
-        ∙ sym (ap (λ x. answer (shows p) (firstOf x (refuse 0 (kindsRefusal p) (piecesCode rs cs qs a c d s t p)))) e) ∙ joined
+        ∙ sym (ap (λ x. answer (shows p) (firstOf x (coded p))) e) ∙ joined
 
 -- a list and then a graph: the list is refused, or it is not
 module _ (rs cs qs a : List ℕ) (c d : ℕ) (s t : List ℕ) (p : Pieces) (q : p ≡ ListAndGraph) where
@@ -199,12 +212,12 @@ module _ (rs cs qs a : List ℕ) (c d : ℕ) (s t : List ℕ) (p : Pieces) (q : 
   list-on e = rw (q, e) refl
 
 -- ---- the directory comes first
-module _ (d : List ℕ) (c e : ℕ) (s t : List ℕ) where
-  pub directory-told : directoryTest d ≡ false → ofClaim (Refused 1 0) ≡ claimAnswer d c e s t
+module _ (x : List ℕ) (c d : ℕ) (s t : List ℕ) where
+  pub directory-told : directoryTest x ≡ false → ofJudgement (Refused 1 0) ≡ claimAnswer x c d s t
   unfolding claimAnswer bytesTest
   directory-told h = rw h refl
 
-  pub directory-on : (rs cs qs : List ℕ) → directoryTest d ≡ true → rs ≡ rolesPart d → cs ≡ conceptsPart d → qs ≡ queryPart d
-      → partsClaim rs cs qs c e s t ≡ claimAnswer d c e s t
+  pub directory-on : (rs cs qs : List ℕ) → directoryTest x ≡ true → rs ≡ rolesPart x → cs ≡ conceptsPart x → qs ≡ queryPart x
+      → partsClaim rs cs qs c d s t ≡ claimAnswer x c d s t
   unfolding partsClaim claimAnswer bytesTest
   directory-on rs cs qs h p q r = rw (p, q, r, h) refl

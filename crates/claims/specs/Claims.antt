@@ -20,7 +20,8 @@ use Rattle.answers.specs.Answers.{Word, Answer, answer, REFUSED, HOLDS, FAILS, 
 use Rattle.claims.specs.declared.Pieces.{Pieces}
 use Rattle.claims.specs.declared.Pieces.the-variants.{ListAndGraph, GraphAlone, ListAlone, Misfit, Off}
 
--- what is wanted: of an element that the claim speaks of, C; of one that breaks it, C and not D. c and d are the numbers of C and D
+-- c and d are the numbers of the literals C and D throughout, x the bytes of a description, s and t those of the pieces.
+-- What is wanted: of an element that the claim speaks of, C; of one that breaks it, C and not D
 abbrev pub subject : ℕ → List Literal
 subject c = literal c ∷ []
 
@@ -66,7 +67,7 @@ shows ListAlone = HOLDS-OF-NOTHING
 shows Misfit = REFUSED
 shows Off = REFUSED
 
--- 10 to 20, with what each answer wants of its pieces: the first piece whole, then the second
+-- 10 to 20, with what each answer wants of its pieces (their 9 has passed): the first piece whole, then the second
 abbrev pub piecesTests : Description → ℕ → ℕ → List ℕ → List ℕ → Pieces → Option Refusal
 piecesTests D c d s t ListAndGraph = firstOf (listTests D (counterexample c d) s) (graphTests D (subject c) t)
 piecesTests D c d s t GraphAlone = graphTests D (counterexample c d) s
@@ -76,9 +77,9 @@ piecesTests D c d s t Off = none
 
 -- in this order: 1 to 8; 24 of the literals; 9 and 24 of the pieces; 10 to 20
 abbrev pub claimRefused : List ℕ → ℕ → ℕ → List ℕ → List ℕ → Option Refusal
-claimRefused d c e s t = refuse 0 (bytesTest d) (refuse 0 (claimTest (described d) c e)
-    (refuse 0 (kindsRefusal (piecesOf s t)) (piecesTests (described d) c e s t (piecesOf s t))))
+claimRefused x c d s t = refuse 0 (bytesTest x) (refuse 0 (claimTest (described x) c d)
+    (refuse 0 (kindsRefusal (piecesOf s t)) (piecesTests (described x) c d s t (piecesOf s t))))
 
 -- Free by the paper: which of two pieces a refusal is of. The record is that of the piece refused, and the answer does not name the piece
 unfoldable pub claimAnswer : List ℕ → ℕ → ℕ → List ℕ → List ℕ → Answer
-claimAnswer d c e s t = answer (shows (piecesOf s t)) (claimRefused d c e s t)
+claimAnswer x c d s t = answer (shows (piecesOf s t)) (claimRefused x c d s t)

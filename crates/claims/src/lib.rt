@@ -1,10 +1,10 @@
 // The answer on a claim "every C is D" with one or two pieces of evidence.
 ghost use mathlib.Core.Path.{_≡_};
 ghost use Rattle.labels.specs.Labels.{valueOf};
-ghost use Rattle.answers.specs.Answers.{refusalOf, ofClaim};
+ghost use Rattle.answers.specs.Answers.{refusalOf, ofJudgement};
 ghost use Rattle.claims.specs.Claims.{piecesOf, claimAnswer};
 ghost use Rattle.claims.specs.ClaimSteps.{counterSet, inTable, askedCode, afterGraph, afterList, endsIn, partsClaim};
-use answers::Claim;
+use answers::Judgement;
 use answers::Tested;
 use evidence::Head;
 use evidence::read_head;
@@ -19,13 +19,13 @@ use nodes::opposite;
 use parts::part;
 use roles::ancestors;
 
-// The two literals of a claim, by number.
-pub struct Inclusion {
+// The literals C and D of a claim, by number.
+pub struct Claim {
     pub c: u8,
     pub d: u8,
 }
 
-// Two pieces of evidence by their kinds, in the order given; the second may be empty.
+// The kinds of the pieces of evidence, in the order given.
 pub enum Pieces {
     ListAndGraph,
     GraphAlone,
@@ -64,7 +64,7 @@ fn after_list(second: &[u8]) -> Pieces
     }
 }
 
-// The kinds of the two pieces.
+// They are read from the heads alone, before any record is.
 fn kinds(first: &[u8], second: &[u8]) -> Pieces
     ensures { λ r. ⌜ r ≡ piecesOf (now (first .entry)) (now (second .entry)) ⌝ }
 {
@@ -77,7 +77,7 @@ fn kinds(first: &[u8], second: &[u8]) -> Pieces
 }
 
 // What is wanted of an element that breaks the claim: C and not D.
-fn counterexample(k: Inclusion) -> Label
+fn counterexample(k: Claim) -> Label
     ensures { λ r. ⌜ valueOf r ≡ counterSet (k .c) (k .d) ⌝ }
 {
     put(only(opposite(k.d)), k.c)
@@ -91,7 +91,7 @@ fn in_table(cs: &[u8], l: u8) -> bool
 }
 
 // Tests 2 to 8 of the tables, then 24 of the literals.
-fn test_asked(rs: &[u8], cs: &[u8], qs: &[u8], a: [u16; 16], k: Inclusion) -> Tested
+fn test_asked(rs: &[u8], cs: &[u8], qs: &[u8], a: [u16; 16], k: Claim) -> Tested
     ensures { λ r. ⌜ refusalOf r ≡ askedCode (now (rs .entry)) (now (cs .entry)) (now (qs .entry)) a (k .c) (k .d) ⌝ }
 {
     let t = test_tables(rs, cs, qs, a);
@@ -105,24 +105,24 @@ fn test_asked(rs: &[u8], cs: &[u8], qs: &[u8], a: [u16; 16], k: Inclusion) -> Te
 }
 
 // The answer that tests of pieces of these kinds end in.
-fn told(t: Tested, p: Pieces) -> Claim
-    ensures { λ r. ⌜ ofClaim r ≡ endsIn p (refusalOf t) ⌝ }
+fn told(t: Tested, p: Pieces) -> Judgement
+    ensures { λ r. ⌜ ofJudgement r ≡ endsIn p (refusalOf t) ⌝ }
 {
     match t {
-        Tested::Refused(n, i) => Claim::Refused(n, i),
+        Tested::Refused(n, i) => Judgement::Refused(n, i),
         Tested::Fine => match p {
-            Pieces::ListAndGraph => Claim::Holds,
-            Pieces::GraphAlone => Claim::Fails,
-            Pieces::ListAlone => Claim::HoldsOfNothing,
-            Pieces::Misfit => Claim::Refused(24, 0),
-            Pieces::Off => Claim::Refused(9, 0),
+            Pieces::ListAndGraph => Judgement::Holds,
+            Pieces::GraphAlone => Judgement::Fails,
+            Pieces::ListAlone => Judgement::HoldsOfNothing,
+            Pieces::Misfit => Judgement::Refused(24, 0),
+            Pieces::Off => Judgement::Refused(9, 0),
         },
     }
 }
 
 // The answer on the parts of a description with a claim.
-fn check_parts(rs: &[u8], cs: &[u8], qs: &[u8], k: Inclusion, first: &[u8], second: &[u8]) -> Claim
-    ensures { λ r. ⌜ ofClaim r ≡ partsClaim (now (rs .entry)) (now (cs .entry)) (now (qs .entry)) (k .c) (k .d) (now (first .entry)) (now (second .entry)) ⌝ }
+fn check_parts(rs: &[u8], cs: &[u8], qs: &[u8], k: Claim, first: &[u8], second: &[u8]) -> Judgement
+    ensures { λ r. ⌜ ofJudgement r ≡ partsClaim (now (rs .entry)) (now (cs .entry)) (now (qs .entry)) (k .c) (k .d) (now (first .entry)) (now (second .entry)) ⌝ }
 {
     let a = ancestors(rs);
     let p = kinds(first, second);
@@ -146,17 +146,17 @@ fn check_parts(rs: &[u8], cs: &[u8], qs: &[u8], k: Inclusion, first: &[u8], seco
 }
 
 // The answer on a claim, for slices of every length and literals of every number.
-pub fn check_claim(description: &[u8], c: u8, d: u8, first: &[u8], second: &[u8]) -> Claim
-    ensures { λ r. ⌜ ofClaim r ≡ claimAnswer (now (description .entry)) c d (now (first .entry)) (now (second .entry)) ⌝ }
+pub fn check_claim(description: &[u8], c: u8, d: u8, first: &[u8], second: &[u8]) -> Judgement
+    ensures { λ r. ⌜ ofJudgement r ≡ claimAnswer (now (description .entry)) c d (now (first .entry)) (now (second .entry)) ⌝ }
 {
     if !directory_ok(description) {
-        return Claim::Refused(1, 0);
+        return Judgement::Refused(1, 0);
     }
     check_parts(
         part(description, 0, 0),
         part(description, 0, 1),
         part(description, 0, 2),
-        Inclusion { c: c, d: d },
+        Claim { c: c, d: d },
         first,
         second,
     )

@@ -4,8 +4,8 @@ use Prim.Native.Nat.{ℕ, _<_}
 use mathlib.Core.Path.{_≡_, refl, sym, _∙_, ap, subst}
 use mathlib.Core.Logic.{_↔_, _⊎_, inl, inr}
 use mathlib.Core.Bool.{Bool, true, false}
-use mathlib.Core.List.{List, [], _∷_, List·Memᴰ·cases-cons, List·Memᴰ·head, List·Memᴰ·tail}
-use mathlib.Core.Option.{Option, none, some, Option·none-ne-some}
+use mathlib.Core.List.{List, [], _∷_, List·Memᴰ·cases-cons, List·Memᴰ·head}
+use mathlib.Core.Option.{none, some, Option·none-ne-some}
 use native.Mathlib.Omega.{arith}
 use borrow.Author.Tests.{ne-eqb}
 use lib.ListN.{length}
@@ -23,7 +23,7 @@ use Rattle.graph.specs.Line.{line}
 use Rattle.graph.specs.Sound.{graph-sound}
 use Rattle.refutation.specs.Records.{Refutation, Closes}
 use Rattle.refutation.specs.Sound.{refutation-sound}
-use Rattle.completeness.specs.Dichotomy.{dichotomy}
+use Rattle.completeness.specs.Dichotomy.{dichotomy, exclusive}
 use Rattle.intake.specs.Intake.{described, AcceptedBytes, accepted-bytes↔}
 use Rattle.evidence.specs.Evidence.{recordCount, graphIn, HeadOk, head↔, headOf, head-graph, head-refutation}
 use Rattle.evidence.specs.declared.Head.{Head}
@@ -32,9 +32,9 @@ use Rattle.evidence.specs.declared.Head.the-variants.{GraphOf, RefutationOf}
 use Rattle.graph_check.specs.GraphEvidence.{GraphKept, kept↔}
 use Rattle.lists.specs.Lists.{refutationIn}
 use Rattle.lists.specs.ListEvidence.{ListKept, list-kept↔}
-use Rattle.answers.specs.declared.Claim.{Claim}
-use Rattle.answers.specs.declared.Claim.the-variants.{Holds, Fails, HoldsOfNothing}
-use Rattle.answers.specs.Answers.{Word, REFUSED, INHABITED, EMPTY, WRITTEN, HOLDS, FAILS, HOLDS-OF-NOTHING, answer, told↔, ofClaim, claim↔, case-when}
+use Rattle.answers.specs.declared.Judgement.{Judgement}
+use Rattle.answers.specs.declared.Judgement.the-variants.{Holds, Fails, HoldsOfNothing}
+use Rattle.answers.specs.Answers.{Word, REFUSED, INHABITED, EMPTY, WRITTEN, HOLDS, FAILS, HOLDS-OF-NOTHING, answer, told↔, ofJudgement, judgement↔, case-when}
 use Rattle.claims.specs.declared.Pieces.{Pieces}
 use Rattle.claims.specs.declared.Pieces.the-variants.{ListAndGraph, GraphAlone, ListAlone, Misfit, Off}
 use Rattle.claims.specs.ClaimSteps.{second-some}
@@ -42,17 +42,17 @@ use Rattle.claims.specs.Claims.{subject, counterexample, secondOf, pieces, piec
 
 -- C and D are literals of the table
 abbrev pub ClaimIn : Description → ℕ → ℕ → Type 0
-ClaimIn D c e = (entryOf (literal c) < D .entries) × (entryOf (literal e) < D .entries)
+ClaimIn D c d = (entryOf (literal c) < D .entries) × (entryOf (literal d) < D .entries)
 
 -- what each answer says of bytes: HOLDS of a list and a graph, FAILS of a graph, HOLDS OF NOTHING of a list
 abbrev pub HoldsOf : Description → ℕ → ℕ → List ℕ → List ℕ → Type 0
-HoldsOf D c e s t = ListKept D (counterexample c e) s × GraphKept D (subject c) t
+HoldsOf D c d s t = ListKept D (counterexample c d) s × GraphKept D (subject c) t
 
 abbrev pub FailsOf : Description → ℕ → ℕ → List ℕ → List ℕ → Type 0
-FailsOf D c e s t = GraphKept D (counterexample c e) s × (t ≡ [])
+FailsOf D c d s t = GraphKept D (counterexample c d) s × (t ≡ [])
 
 abbrev pub NothingOf : Description → ℕ → ℕ → List ℕ → List ℕ → Type 0
-NothingOf D c e s t = ListKept D (subject c) s × (t ≡ [])
+NothingOf D c d s t = ListKept D (subject c) s × (t ≡ [])
 
 -- ---- by the kinds of the pieces
 -- the kinds that show a word
@@ -110,42 +110,44 @@ some-bytes [] k e = omega (arith, k)
 some-bytes (b ∷ t) k e = omega arith
 
 -- ---- exactly when
-module _ (d : List ℕ) (c e : ℕ) (s t : List ℕ) where
+module _ (x : List ℕ) (c d : ℕ) (s t : List ℕ) where
   -- a word but REFUSED is told exactly if pieces of their kinds show it and nothing refuses
-  shown↔ : (w : Word) → kindsRefusal (kindsFor w) ≡ none → let D = described d in let p = piecesOf s t in (claimAnswer d c e s t ≡ answer w none)
-      ↔ ((shows p ≡ w) × (AcceptedBytes d × (ClaimIn D c e × ((kindsRefusal p ≡ none) × (piecesTests D c e s t p ≡ none)))))
+  shown↔ : (w : Word) → kindsRefusal (kindsFor w) ≡ none → let D = described x in let p = piecesOf s t in
+      (claimAnswer x c d s t ≡ answer w none)
+      ↔ ((shows p ≡ w) × (AcceptedBytes x × (ClaimIn D c d × ((kindsRefusal p ≡ none) × (piecesTests D c d s t p ≡ none)))))
   unfolding claimAnswer
-  shown↔ w h = simp (told↔ (shows (piecesOf s t)) w (claimRefused d c e s t) (not-refused w h), refuse↔, accepted-bytes↔, unless↔, reading)
+  shown↔ w h = simp (told↔ (shows (piecesOf s t)) w (claimRefused x c d s t) (not-refused w h), refuse↔, accepted-bytes↔, unless↔, reading)
       (λ u. (u .0, (u .1 .0, (u .1 .1 .0 .0, u .1 .1 .1))), λ u. (u .0, (u .1 .0, ((u .1 .1 .0, refl), u .1 .1 .1))))
 
   -- so their kinds are those for it, and their tests pass
-  told : (w : Word) → kindsRefusal (kindsFor w) ≡ none → claimAnswer d c e s t ≡ answer w none
-      → AcceptedBytes d × (ClaimIn (described d) c e × ((piecesOf s t ≡ kindsFor w) × (piecesTests (described d) c e s t (kindsFor w) ≡ none)))
+  told : (w : Word) → kindsRefusal (kindsFor w) ≡ none → claimAnswer x c d s t ≡ answer w none
+      → AcceptedBytes x × (ClaimIn (described x) c d × ((piecesOf s t ≡ kindsFor w) × (piecesTests (described x) c d s t (kindsFor w) ≡ none)))
   told w h q = let u = shown↔ w h .0 q in let k = fitting (piecesOf s t) (u .1 .1 .1 .0) ∙ ap kindsFor (u .0) in
-      (u .1 .0, (u .1 .1 .0, (k, subst (λ p. piecesTests (described d) c e s t p ≡ none) k (u .1 .1 .1 .1))))
+      (u .1 .0, (u .1 .1 .0, (k, subst (λ p. piecesTests (described x) c d s t p ≡ none) k (u .1 .1 .1 .1))))
 
-  pub holds↔ : (claimAnswer d c e s t ≡ answer HOLDS none) ↔ (AcceptedBytes d × (ClaimIn (described d) c e × HoldsOf (described d) c e s t))
+  pub holds↔ : (claimAnswer x c d s t ≡ answer HOLDS none) ↔ (AcceptedBytes x × (ClaimIn (described x) c d × HoldsOf (described x) c d s t))
   unfolding pieces
-  holds↔ = let D = described d in (
+  holds↔ = let D = described x in (
     λ q. let u = told HOLDS refl q in let v = first↔ _ _ .0 (u .1 .1 .1) in
-        (u .0, (u .1 .0, (list-kept↔ D (u .0 .accepted) (counterexample c e) s .0 (v .0), kept↔ D (subject c) t .0 (v .1)))),
+        (u .0, (u .1 .0, (list-kept↔ D (u .0 .accepted) (counterexample c d) s .0 (v .0), kept↔ D (subject c) t .0 (v .1)))),
     λ k. let l = k .1 .1 .0 in let g = k .1 .1 .1 in shown↔ HOLDS refl .1 (
         rw (list-head s (l .head) (l .is-list), ne-eqb (length t) 0 (some-bytes t (g .is-graph)), graph-head t (g .head) (g .is-graph))
-        (refl, (k .0, (k .1 .0, (refl, first↔ _ _ .1 (list-kept↔ D (k .0 .accepted) (counterexample c e) s .1 l, kept↔ D (subject c) t .1 g)))))),
+        (refl, (k .0, (k .1 .0, (refl, first↔ _ _ .1 (list-kept↔ D (k .0 .accepted) (counterexample c d) s .1 l, kept↔ D (subject c) t .1 g)))))),
   )
 
-  pub fails↔ : (claimAnswer d c e s t ≡ answer FAILS none) ↔ (AcceptedBytes d × (ClaimIn (described d) c e × FailsOf (described d) c e s t))
+  pub fails↔ : (claimAnswer x c d s t ≡ answer FAILS none) ↔ (AcceptedBytes x × (ClaimIn (described x) c d × FailsOf (described x) c d s t))
   unfolding pieces
-  fails↔ = let D = described d in (
+  fails↔ = let D = described x in (
     λ q. let u = told FAILS refl q in
-        (u .0, (u .1 .0, (kept↔ D (counterexample c e) s .0 (u .1 .1 .1), none-second (headOf s) t (ap single (u .1 .1 .0))))),
+        (u .0, (u .1 .0, (kept↔ D (counterexample c d) s .0 (u .1 .1 .1), none-second (headOf s) t (ap single (u .1 .1 .0))))),
     λ k. let g = k .1 .1 .0 in shown↔ FAILS refl .1 (rw (graph-head s (g .head) (g .is-graph), k .1 .1 .1)
-        (refl, (k .0, (k .1 .0, (refl, kept↔ D (counterexample c e) s .1 g))))),
+        (refl, (k .0, (k .1 .0, (refl, kept↔ D (counterexample c d) s .1 g))))),
   )
 
-  pub nothing↔ : (claimAnswer d c e s t ≡ answer HOLDS-OF-NOTHING none) ↔ (AcceptedBytes d × (ClaimIn (described d) c e × NothingOf (described d) c e s t))
+  pub nothing↔ : (claimAnswer x c d s t ≡ answer HOLDS-OF-NOTHING none)
+      ↔ (AcceptedBytes x × (ClaimIn (described x) c d × NothingOf (described x) c d s t))
   unfolding pieces
-  nothing↔ = let D = described d in (
+  nothing↔ = let D = described x in (
     λ q. let u = told HOLDS-OF-NOTHING refl q in
         (u .0, (u .1 .0, (list-kept↔ D (u .0 .accepted) (subject c) s .0 (u .1 .1 .1), none-second (headOf s) t (ap single (u .1 .1 .0))))),
     λ k. let l = k .1 .1 .0 in shown↔ HOLDS-OF-NOTHING refl .1 (rw (list-head s (l .head) (l .is-list), k .1 .1 .1)
@@ -153,97 +155,95 @@ module _ (d : List ℕ) (c e : ℕ) (s t : List ℕ) where
   )
 
   -- so for the case that the code answers
-  module _ (v : Claim) (q : ofClaim v ≡ claimAnswer d c e s t) where
-    pub holds-when : (v ≡ Holds) ↔ (AcceptedBytes d × (ClaimIn (described d) c e × HoldsOf (described d) c e s t))
-    holds-when = case-when (ofClaim v) (claimAnswer d c e s t) (answer HOLDS none) q (claim↔ v Holds) holds↔
+  module _ (v : Judgement) (q : ofJudgement v ≡ claimAnswer x c d s t) where
+    pub holds-when : (v ≡ Holds) ↔ (AcceptedBytes x × (ClaimIn (described x) c d × HoldsOf (described x) c d s t))
+    holds-when = case-when (ofJudgement v) (claimAnswer x c d s t) (answer HOLDS none) q (judgement↔ v Holds) holds↔
 
-    pub fails-when : (v ≡ Fails) ↔ (AcceptedBytes d × (ClaimIn (described d) c e × FailsOf (described d) c e s t))
-    fails-when = case-when (ofClaim v) (claimAnswer d c e s t) (answer FAILS none) q (claim↔ v Fails) fails↔
+    pub fails-when : (v ≡ Fails) ↔ (AcceptedBytes x × (ClaimIn (described x) c d × FailsOf (described x) c d s t))
+    fails-when = case-when (ofJudgement v) (claimAnswer x c d s t) (answer FAILS none) q (judgement↔ v Fails) fails↔
 
-    pub nothing-when : (v ≡ HoldsOfNothing) ↔ (AcceptedBytes d × (ClaimIn (described d) c e × NothingOf (described d) c e s t))
-    nothing-when = case-when (ofClaim v) (claimAnswer d c e s t) (answer HOLDS-OF-NOTHING none) q (claim↔ v HoldsOfNothing) nothing↔
+    pub nothing-when : (v ≡ HoldsOfNothing) ↔ (AcceptedBytes x × (ClaimIn (described x) c d × NothingOf (described x) c d s t))
+    nothing-when = case-when (ofJudgement v) (claimAnswer x c d s t) (answer HOLDS-OF-NOTHING none) q (judgement↔ v HoldsOfNothing) nothing↔
 
   -- ---- and true
   -- after HOLDS no finite model of any size has an element with C and not D, and the line of the graph is one that has C
-  pub holds-true : claimAnswer d c e s t ≡ answer HOLDS none → let D = described d in
-      ((I : Interpretation) → Model D I → Satisfies D (counterexample c e) I → ⊥) × (Model D (line D (graphIn t)) × Satisfies D (subject c) (line D (graphIn t)))
-  holds-true q = let k = holds↔ .0 q in let D = described d in (
-    refutation-sound D (k .0 .accepted) (counterexample c e) (refutationIn s) (k .1 .1 .0 .closes),
+  pub holds-true : claimAnswer x c d s t ≡ answer HOLDS none → let D = described x in
+      ((I : Interpretation) → Model D I → Satisfies D (counterexample c d) I → ⊥)
+      × (Model D (line D (graphIn t)) × Satisfies D (subject c) (line D (graphIn t)))
+  holds-true q = let k = holds↔ .0 q in let D = described x in (
+    refutation-sound D (k .0 .accepted) (counterexample c d) (refutationIn s) (k .1 .1 .0 .closes),
     graph-sound D (k .0 .accepted) (subject c) (graphIn t) (k .1 .1 .1 .keeps),
   )
 
   -- after FAILS the line of the graph has an element with C and not D
-  pub fails-true : claimAnswer d c e s t ≡ answer FAILS none
-      → let D = described d in Model D (line D (graphIn s)) × Satisfies D (counterexample c e) (line D (graphIn s))
-  fails-true q = let k = fails↔ .0 q in graph-sound (described d) (k .0 .accepted) (counterexample c e) (graphIn s) (k .1 .1 .0 .keeps)
+  pub fails-true : claimAnswer x c d s t ≡ answer FAILS none
+      → let D = described x in Model D (line D (graphIn s)) × Satisfies D (counterexample c d) (line D (graphIn s))
+  fails-true q = let k = fails↔ .0 q in graph-sound (described x) (k .0 .accepted) (counterexample c d) (graphIn s) (k .1 .1 .0 .keeps)
 
   -- after HOLDS OF NOTHING no finite model of any size has C
-  pub nothing-true : claimAnswer d c e s t ≡ answer HOLDS-OF-NOTHING none
-      → (I : Interpretation) → Model (described d) I → Satisfies (described d) (subject c) I → ⊥
-  nothing-true q = let k = nothing↔ .0 q in refutation-sound (described d) (k .0 .accepted) (subject c) (refutationIn s) (k .1 .1 .0 .closes)
+  pub nothing-true : claimAnswer x c d s t ≡ answer HOLDS-OF-NOTHING none
+      → (I : Interpretation) → Model (described x) I → Satisfies (described x) (subject c) I → ⊥
+  nothing-true q = let k = nothing↔ .0 q in refutation-sound (described x) (k .0 .accepted) (subject c) (refutationIn s) (k .1 .1 .0 .closes)
 
 -- ---- exactly one of the three
 -- lifted evidence for each answer
 abbrev pub HoldsLifted : Description → ℕ → ℕ → Type 0
-HoldsLifted D c e = ((C : Refutation) × Closes D (counterexample c e) C) × ((G : Graph) × Keeps D (subject c) G)
+HoldsLifted D c d = ((C : Refutation) × Closes D (counterexample c d) C) × ((G : Graph) × Keeps D (subject c) G)
 
 abbrev pub FailsLifted : Description → ℕ → ℕ → Type 0
-FailsLifted D c e = (G : Graph) × Keeps D (counterexample c e) G
+FailsLifted D c d = (G : Graph) × Keeps D (counterexample c d) G
 
 abbrev pub NothingLifted : Description → ℕ → ℕ → Type 0
-NothingLifted D c e = (C : Refutation) × Closes D (subject c) C
+NothingLifted D c d = (C : Refutation) × Closes D (subject c) C
 
 -- what has C and not D has C
-has-subject : (D : Description) (c e : ℕ) (I : Interpretation) → Satisfies D (counterexample c e) I → Satisfies D (subject c) I
-has-subject D c e I w = (w .0, w .1, λ l m. w .2 l (elim (List·Memᴰ·cases-cons m) [ inl q ↦ List·Memᴰ·head q | inr u ↦ elim u [ ] ]))
+has-subject : (D : Description) (c d : ℕ) (I : Interpretation) → Satisfies D (counterexample c d) I → Satisfies D (subject c) I
+has-subject D c d I w = (w .0, w .1, λ l m. w .2 l (elim (List·Memᴰ·cases-cons m) [ inl q ↦ List·Memᴰ·head q | inr u ↦ elim u [ ] ]))
 
-module _ (D : Description) (A : Accepted D) (c e : ℕ) where
-  holds-or-fails : HoldsLifted D c e → FailsLifted D c e → ⊥
-  holds-or-fails h f = let w = graph-sound D A (counterexample c e) (f .0) (f .1) in
-      refutation-sound D A (counterexample c e) (h .0 .0) (h .0 .1) (line D (f .0)) (w .0) (w .1)
+module _ (D : Description) (A : Accepted D) (c d : ℕ) (i : ClaimIn D c d) where
+  subject-in : (l : Literal) → l ∈ subject c → entryOf l < D .entries
+  subject-in l m = elim (List·Memᴰ·cases-cons m) [ inl q ↦ subst (λ k. entryOf k < D .entries) (sym q) (i .0) | inr u ↦ elim u [ ] ]
 
-  holds-or-nothing : HoldsLifted D c e → NothingLifted D c e → ⊥
-  holds-or-nothing h n = let w = graph-sound D A (subject c) (h .1 .0) (h .1 .1) in
-      refutation-sound D A (subject c) (n .0) (n .1) (line D (h .1 .0)) (w .0) (w .1)
-
-  fails-or-nothing : FailsLifted D c e → NothingLifted D c e → ⊥
-  fails-or-nothing f n = let w = graph-sound D A (counterexample c e) (f .0) (f .1) in
-      refutation-sound D A (subject c) (n .0) (n .1) (line D (f .0)) (w .0) (has-subject D c e (line D (f .0)) (w .1))
-
-  module _ (i : ClaimIn D c e) where
-    subject-in : (l : Literal) → l ∈ subject c → entryOf l < D .entries
-    subject-in l m = elim (List·Memᴰ·cases-cons m) [ inl q ↦ subst (λ k. entryOf k < D .entries) (sym q) (i .0) | inr u ↦ elim u [ ] ]
-
-    counter-in : (l : Literal) → l ∈ counterexample c e → entryOf l < D .entries
-    counter-in l m = elim (List·Memᴰ·cases-cons m) [
-      | inl q ↦ subst (λ k. entryOf k < D .entries) (sym q) (i .0)
-      | inr u ↦ elim (List·Memᴰ·cases-cons u) [
-        | inl q ↦ subst (λ k. entryOf k < D .entries) (sym q) (rw (entryOf-opposite (literal e)) (i .1))
-        | inr v ↦ elim v [ ]
-      ]
+  counter-in : (l : Literal) → l ∈ counterexample c d → entryOf l < D .entries
+  counter-in l m = elim (List·Memᴰ·cases-cons m) [
+    | inl q ↦ subst (λ k. entryOf k < D .entries) (sym q) (i .0)
+    | inr u ↦ elim (List·Memᴰ·cases-cons u) [
+      | inl q ↦ subst (λ k. entryOf k < D .entries) (sym q) (rw (entryOf-opposite (literal d)) (i .1))
+      | inr v ↦ elim v [ ]
     ]
+  ]
 
-    one-of-three : HoldsLifted D c e ⊎ (FailsLifted D c e ⊎ NothingLifted D c e)
-    one-of-three = elim (dichotomy D A (subject c) subject-in) [
-      | inr n ↦ inr (inr n)
-      | inl b ↦ elim (dichotomy D A (counterexample c e) counter-in) [ inl g ↦ inr (inl (g .0, g .1)) | inr r ↦ inl (r, (b .0, b .1)) ]
-    ]
+  one-of-three : HoldsLifted D c d ⊎ (FailsLifted D c d ⊎ NothingLifted D c d)
+  one-of-three = elim (dichotomy D A (subject c) subject-in) [
+    | inr n ↦ inr (inr n)
+    | inl b ↦ elim (dichotomy D A (counterexample c d) counter-in) [ inl g ↦ inr (inl (g .0, g .1)) | inr r ↦ inl (r, (b .0, b .1)) ]
+  ]
 
-    -- for an accepted description and literals of the table, exactly one of the three has lifted evidence
-    pub exactly-one : (HoldsLifted D c e ⊎ (FailsLifted D c e ⊎ NothingLifted D c e))
-        × ((HoldsLifted D c e → FailsLifted D c e → ⊥) × ((HoldsLifted D c e → NothingLifted D c e → ⊥) × (FailsLifted D c e → NothingLifted D c e → ⊥)))
-    exactly-one = (one-of-three, (holds-or-fails, (holds-or-nothing, fails-or-nothing)))
+  -- for an accepted description and literals of the table, exactly one of the three has lifted evidence
+  pub exactly-one : (HoldsLifted D c d ⊎ (FailsLifted D c d ⊎ NothingLifted D c d))
+      × ((HoldsLifted D c d → FailsLifted D c d → ⊥)
+      × ((HoldsLifted D c d → NothingLifted D c d → ⊥) × (FailsLifted D c d → NothingLifted D c d → ⊥)))
+  exactly-one = (
+    one-of-three,
+    (
+      λ h f. exclusive D A (counterexample c d) counter-in (f .0) (f .1) (h .0 .0) (h .0 .1),
+      (
+        λ h n. exclusive D A (subject c) subject-in (h .1 .0) (h .1 .1) (n .0) (n .1),
+        λ f n. let w = graph-sound D A (counterexample c d) (f .0) (f .1) in
+            refutation-sound D A (subject c) (n .0) (n .1) (line D (f .0)) (w .0) (has-subject D c d (line D (f .0)) (w .1)),
+      ),
+    ),
+  )
 
 -- so no claim has two answers, whatever the evidence
-module _ (d : List ℕ) (c e : ℕ) (s t u v : List ℕ) where
-  pub never-holds-and-fails : claimAnswer d c e s t ≡ answer HOLDS none → claimAnswer d c e u v ≡ answer FAILS none → ⊥
-  never-holds-and-fails p q = let h = holds↔ d c e s t .0 p in let f = fails↔ d c e u v .0 q in
-      holds-or-fails (described d) (h .0 .accepted) c e ((refutationIn s, h .1 .1 .0 .closes), (graphIn t, h .1 .1 .1 .keeps)) (graphIn u, f .1 .1 .0 .keeps)
+module _ (x : List ℕ) (c d : ℕ) (s t u v : List ℕ) where
+  pub never-holds-and-fails : claimAnswer x c d s t ≡ answer HOLDS none → claimAnswer x c d u v ≡ answer FAILS none → ⊥
+  never-holds-and-fails p q = let f = fails-true x c d u v q in holds-true x c d s t p .0 (line (described x) (graphIn u)) (f .0) (f .1)
 
-  pub never-holds-and-nothing : claimAnswer d c e s t ≡ answer HOLDS none → claimAnswer d c e u v ≡ answer HOLDS-OF-NOTHING none → ⊥
-  never-holds-and-nothing p q = let h = holds↔ d c e s t .0 p in let n = nothing↔ d c e u v .0 q in
-      holds-or-nothing (described d) (h .0 .accepted) c e ((refutationIn s, h .1 .1 .0 .closes), (graphIn t, h .1 .1 .1 .keeps)) (refutationIn u, n .1 .1 .0 .closes)
+  pub never-holds-and-nothing : claimAnswer x c d s t ≡ answer HOLDS none → claimAnswer x c d u v ≡ answer HOLDS-OF-NOTHING none → ⊥
+  never-holds-and-nothing p q = let h = holds-true x c d s t p in
+      nothing-true x c d u v q (line (described x) (graphIn t)) (h .1 .0) (h .1 .1)
 
-  pub never-fails-and-nothing : claimAnswer d c e s t ≡ answer FAILS none → claimAnswer d c e u v ≡ answer HOLDS-OF-NOTHING none → ⊥
-  never-fails-and-nothing p q = let f = fails↔ d c e s t .0 p in let n = nothing↔ d c e u v .0 q in
-      fails-or-nothing (described d) (f .0 .accepted) c e (graphIn s, f .1 .1 .0 .keeps) (refutationIn u, n .1 .1 .0 .closes)
+  pub never-fails-and-nothing : claimAnswer x c d s t ≡ answer FAILS none → claimAnswer x c d u v ≡ answer HOLDS-OF-NOTHING none → ⊥
+  never-fails-and-nothing p q = let f = fails-true x c d s t p in let I = line (described x) (graphIn s) in
+      nothing-true x c d u v q I (f .0) (has-subject (described x) c d I (f .1))

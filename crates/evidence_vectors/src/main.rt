@@ -1,4 +1,5 @@
-// Runs the rows of each data file: a description with evidence is checked, a claim is judged, the line of a graph is written, or a line is read.
+// Runs the rows of each data file: a description with evidence is checked, a claim is judged, the line of a graph is written, or a line is
+// read.
 // A row's fields stand between tabs, bytes are hexadecimal digits, the last field is the answer that it expects; a remark follows '#'.
 // Prints for each file how often each answer was right, and each row whose answer was another.
 mod rows;

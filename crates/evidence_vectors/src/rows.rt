@@ -2,7 +2,7 @@
 use super::tally::Answer;
 use super::tally::expected;
 use super::tally::line_digits;
-use super::tally::of_claim;
+use super::tally::of_judgement;
 use super::tally::of_reading;
 use super::tally::of_verdict;
 use super::tally::of_written;
@@ -31,7 +31,6 @@ pub(crate) fn check_row(line: &[u8]) -> Answer {
     of_verdict(check_evidence(description_part(input), evidence_part(input)))
 }
 
-// A literal's number.
 fn literal(digits: &[u8]) -> u8 {
     (number(digits) % 256) as u8
 }
@@ -46,7 +45,7 @@ pub(crate) fn claim_row(line: &[u8]) -> Answer {
     let m = decode(field(line, 3, b'\t'), &mut first);
     let mut second = [0; 16384];
     let k = decode(field(line, 4, b'\t'), &mut second);
-    of_claim(check_claim(&description[..n], c, d, &first[..m], &second[..k]))
+    of_judgement(check_claim(&description[..n], c, d, &first[..m], &second[..k]))
 }
 
 // A row of the reader: a description and a line.

@@ -1,5 +1,5 @@
 // Answers, how they are printed, and how often each was right.
-use answers::Claim;
+use answers::Judgement;
 use answers::Reading;
 use answers::Verdict;
 use answers::Written;
@@ -35,12 +35,12 @@ pub(crate) fn of_verdict(v: Verdict) -> Answer {
     }
 }
 
-pub(crate) fn of_claim(v: Claim) -> Answer {
+pub(crate) fn of_judgement(v: Judgement) -> Answer {
     match v {
-        Claim::Holds => told(b'H', 0, 0),
-        Claim::Fails => told(b'F', 0, 0),
-        Claim::HoldsOfNothing => told(b'V', 0, 0),
-        Claim::Refused(number, place) => refusal(number, place),
+        Judgement::Holds => told(b'H', 0, 0),
+        Judgement::Fails => told(b'F', 0, 0),
+        Judgement::HoldsOfNothing => told(b'V', 0, 0),
+        Judgement::Refused(number, place) => refusal(number, place),
     }
 }
 
@@ -67,7 +67,7 @@ pub(crate) fn line_digits(text: &[u8]) -> &[u8] {
     &text[..0]
 }
 
-// Whether the words are HOLDS OF NOTHING.
+// HOLDS OF NOTHING begins as HOLDS does.
 fn of_nothing(text: &[u8]) -> bool {
     (byte(text, 0) == b'H') & (byte(text, 6) == b'O')
 }

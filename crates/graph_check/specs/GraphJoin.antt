@@ -23,12 +23,12 @@ use Rattle.evidence.specs.Evidence.{recordCount, HeadOk, headTest, head↔, rec
 use Rattle.evidence.specs.InPlace.{record-length, label-there, edges-there, edges-few}
 use Rattle.graph.specs.Graphs.{labelAt, nodeAt, edgesAt, wantedAt}
 use Rattle.graph.specs.GraphTests.{storedGraph, labelTest, bothTest, edgeTest, nodeRefusal, nodeForm, graphRefusal}
-use Rattle.nodes.specs.NodeSteps.{entryCount, labelCode, labelTestOf, label-is, rootSet, root-is, bothAt, both-is}
+use Rattle.nodes.specs.NodeSteps.{entryCount, labelCode, requiredSet, label-is, rootSet, root-is, bothAt, both-is}
 use Rattle.edges.specs.EdgeSteps.{edgesCode, edges-are}
 use Rattle.fillers.specs.FillerLaws.{everys-are, counts-are}
 use Rattle.logic.specs.Refusals.{refuse-then, records-later, records-cong}
 use Rattle.graph_check.specs.GraphEvidence.{graphHead, formAt, graphTests}
-use Rattle.graph_check.specs.GraphSteps.{formOf, wantedOf, nodeCode, recordCode, recordsCode, graphCode, tablesCode}
+use Rattle.graph_check.specs.GraphSteps.{formOf, needOf, nodeCode, recordCode, recordsCode, graphCode, tablesCode}
 
 -- 11 to 15, of record x
 nodeAtTest : Description → List Literal → List ℕ → ℕ → Option ℕ
@@ -47,10 +47,11 @@ rules-on D W s formed = ap (λ m. refuseFrom form m 0 (refuseFrom (nodeAtTest D 
     few : (x : ℕ) → x < recordCount s → form x ≡ none
     few x h = let z : length (edgesAt (graphIn s) x) ≤ 32 = rw (edges-size s x h) (formed x h .1 .1) in rw (le-leb _ _ z) refl
 
-wanted-is : (W : List Literal) (x : ℕ) → wantedOf (literalSet W) x ≡ literalSet (wantedAt W x)
+-- what record x is to have
+need-is : (qs : List ℕ) (W : List Literal) (x : ℕ) → needOf (requiredSet qs (literalSet W)) (requiredSet qs 0) x ≡ requiredSet qs (literalSet (wantedAt W x))
 unfolding literalSet
-wanted-is W zero = refl
-wanted-is W (suc x) = rw (ne-eqb (suc x) 0 (λ e. omega arith)) refl
+need-is qs W zero = refl
+need-is qs W (suc x) = rw (ne-eqb (suc x) 0 (λ e. omega arith)) refl
 
 module _ (rs cs qs a : List ℕ) (anc : AncestorsOf rs a) (few : length rs / 3 ≤ 16) (table : length cs / 6 ≤ 32) (acc : Accepted (describe rs cs qs))
     (W : List Literal) (s : List ℕ) (head : HeadOk s) where
@@ -76,8 +77,9 @@ module _ (rs cs qs a : List ℕ) (anc : AncestorsOf rs a) (few : length rs / 3 �
         unless-then _ _ 14 _ _ (everys-are rs cs qs s table n (labelAt (graphIn s)) labels (labelOf s x) (edgesPart s x) (edges-few s head formed x h) p a anc few acc) (λ _.
         unless-then _ _ 15 _ _ (counts-are rs cs qs s table n (labelAt (graphIn s)) labels (labelOf s x) (edgesPart s x) (edges-few s head formed x h) p) (λ _. refl))))))
       where
-        label : labelTestOf cs qs (labelOf s x) (wantedOf (literalSet W) x) ≡ labelTest D (wantedAt W x) (labelOf s x)
-        label = ap₂ (λ k M. labelCode qs k (labelOf s x) M) (up-to-all 32 (length cs / 6) table) (wanted-is W x) ∙ label-is rs cs qs (wantedAt W x) (labelOf s x)
+        label : labelCode (entryCount cs) (labelOf s x) (needOf (requiredSet qs (literalSet W)) (requiredSet qs 0) x) ≡ labelTest D (wantedAt W x) (labelOf s x)
+        label = ap₂ (λ k K. labelCode k (labelOf s x) K) (up-to-all 32 (length cs / 6) table) (need-is qs W x)
+            ∙ label-is rs cs qs table (acc .rules-in) (wantedAt W x) (labelOf s x)
 
         both : allBelow (entryCount cs) (bothAt cs (labelOf s x)) ≡ bothTest D (members (labelOf s x))
         both = ap (λ k. allBelow k (bothAt cs (labelOf s x))) (up-to-all 32 (length cs / 6) table) ∙ both-is rs cs qs (labelOf s x)

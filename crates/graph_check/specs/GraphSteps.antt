@@ -12,7 +12,7 @@ use Rattle.logic.specs.Bounded.{allBelow}
 use Rattle.parts.specs.Numbers.{upTo}
 use Rattle.parts.specs.Pairs.{lengthAt}
 use Rattle.evidence.specs.Evidence.{recordCount, edgesPart, nodeFormTest, labelOf}
-use Rattle.nodes.specs.NodeSteps.{entryCount, labelTestOf, rootSet, bothAt}
+use Rattle.nodes.specs.NodeSteps.{entryCount, labelCode, requiredSet, rootSet, bothAt}
 use Rattle.edges.specs.EdgeSteps.{edgesCode}
 use Rattle.labels.specs.declared.Label.{Label}
 use Rattle.fillers.specs.FillerSteps.{everysCode, countsCode}
@@ -29,21 +29,28 @@ formCode s i = nodeFormTest (lengthAt s 2 i)
 abbrev pub formOf : List ℕ → ℕ → Option ℕ
 formOf s i = unless (formCode s i) 10 none
 
--- what is wanted of record i, where the set M is wanted of record 0
-abbrev pub wantedOf : ℕ → ℕ → ℕ
-wantedOf M i = cond (eqb i 0) M 0
+-- one of two sets: of record 0, and of the others
+abbrev pub needOf : ℕ → ℕ → ℕ → ℕ
+needOf first later i = cond (eqb i 0) first later
 
--- 11 to 15, of a record with label N and edges es, of which the set w is wanted, in a graph of n records
-unfoldable pub nodeCode : List ℕ → List ℕ → List ℕ → List ℕ → ℕ → List ℕ → ℕ → ℕ → List ℕ → Option ℕ
-nodeCode rs cs qs a w s n N es =
-    unless (labelTestOf cs qs N w) 11
+-- 11 to 15, of a record with label N and edges es, which is to have the set K, in a graph of n records
+unfoldable pub nodeCode : List ℕ → List ℕ → List ℕ → ℕ → List ℕ → ℕ → ℕ → List ℕ → Option ℕ
+nodeCode rs cs a K s n N es =
+    unless (labelCode (entryCount cs) N K) 11
     (unless (allBelow (entryCount cs) (bothAt cs N)) 12
     (unless (edgesCode a (upTo 16 (length rs / 3)) n es) 13
     (unless (everysCode rs cs s a N es) 14
     (unless (countsCode cs s N es) 15 none))))
 
+abbrev pub recordNeeds : List ℕ → List ℕ → List ℕ → ℕ → List ℕ → ℕ → ℕ → Option ℕ
+recordNeeds rs cs a K s n i = nodeCode rs cs a K s n (labelOf s i) (edgesPart s i)
+
+-- record 0 is to have one set, the others another; so where the set M is wanted of record 0
+abbrev pub recordFor : List ℕ → List ℕ → List ℕ → ℕ → ℕ → List ℕ → ℕ → ℕ → Option ℕ
+recordFor rs cs a first later s n i = recordNeeds rs cs a (needOf first later i) s n i
+
 abbrev pub recordCode : List ℕ → List ℕ → List ℕ → List ℕ → ℕ → List ℕ → ℕ → ℕ → Option ℕ
-recordCode rs cs qs a M s n i = nodeCode rs cs qs a (wantedOf M i) s n (labelOf s i) (edgesPart s i)
+recordCode rs cs qs a M s n i = recordFor rs cs a (requiredSet qs M) (requiredSet qs 0) s n i
 
 -- 10 to 15
 unfoldable pub recordsCode : List ℕ → List ℕ → List ℕ → List ℕ → ℕ → List ℕ → ℕ → Option Refusal
@@ -58,39 +65,39 @@ abbrev pub tablesCode : List ℕ → List ℕ → List ℕ → List ℕ → List
 tablesCode rs cs qs a s = refuse 0 (tablesTest rs cs qs a) (graphCode rs cs qs a (rootSet qs) s)
 
 -- ---- laws for the code
-pub wanted-first : (M i : ℕ) → i ≡ 0 → M ≡ wantedOf M i
-wanted-first M i e = rw e refl
+pub need-first : (first later i : ℕ) → i ≡ 0 → first ≡ needOf first later i
+need-first first later i e = rw e refl
 
-pub wanted-later : (M i : ℕ) → (i ≡ 0 → ⊥) → 0 ≡ wantedOf M i
-wanted-later M i e = rw (ne-eqb i 0 e) refl
+pub need-later : (first later i : ℕ) → (i ≡ 0 → ⊥) → later ≡ needOf first later i
+need-later first later i e = rw (ne-eqb i 0 e) refl
 
-module _ (rs cs qs a : List ℕ) (w : ℕ) (s : List ℕ) (n i N : ℕ) (es : List ℕ) where
+module _ (rs cs a : List ℕ) (K : ℕ) (s : List ℕ) (n i N : ℕ) (es : List ℕ) where
   abbrev node : Option Refusal
-  node = refuse i (nodeCode rs cs qs a w s n N es) none
+  node = refuse i (nodeCode rs cs a K s n N es) none
 
-  pub stops-11 : labelTestOf cs qs N w ≡ false → refusalOf (Refused 11 i) ≡ node
+  pub stops-11 : labelCode (entryCount cs) N K ≡ false → refusalOf (Refused 11 i) ≡ node
   unfolding nodeCode
   stops-11 e = rw e refl
 
-  pub stops-12 : labelTestOf cs qs N w ≡ true → allBelow (entryCount cs) (bothAt cs N) ≡ false → refusalOf (Refused 12 i) ≡ node
+  pub stops-12 : labelCode (entryCount cs) N K ≡ true → allBelow (entryCount cs) (bothAt cs N) ≡ false → refusalOf (Refused 12 i) ≡ node
   unfolding nodeCode
   stops-12 p e = rw (p, e) refl
 
-  pub stops-13 : labelTestOf cs qs N w ≡ true → allBelow (entryCount cs) (bothAt cs N) ≡ true → edgesCode a (upTo 16 (length rs / 3)) n es ≡ false
+  pub stops-13 : labelCode (entryCount cs) N K ≡ true → allBelow (entryCount cs) (bothAt cs N) ≡ true → edgesCode a (upTo 16 (length rs / 3)) n es ≡ false
       → refusalOf (Refused 13 i) ≡ node
   unfolding nodeCode
   stops-13 p q e = rw (p, q, e) refl
 
   -- 14 with the table of sources
-  pub goes-on : (src : List Label) → SourcesOf rs cs a src → labelTestOf cs qs N w ≡ true → allBelow (entryCount cs) (bothAt cs N) ≡ true
+  pub goes-on : (src : List Label) → SourcesOf rs cs a src → labelCode (entryCount cs) N K ≡ true → allBelow (entryCount cs) (bothAt cs N) ≡ true
       → edgesCode a (upTo 16 (length rs / 3)) n es ≡ true → refuse i (unless (everysWith cs s src N es) 14 (unless (countsCode cs s N es) 15 none)) none ≡ node
   unfolding nodeCode
   goes-on src T p q r = rw (everys-with rs cs a N s es src T, p, q, r) refl
 
--- what is wanted of the record, its label and its edges, as they are read
-pub record-read : (rs cs qs a : List ℕ) (M w : ℕ) (s : List ℕ) (n i N : ℕ) (es : List ℕ) → w ≡ wantedOf M i → N ≡ labelOf s i → es ≡ edgesPart s i
-    → refuse i (nodeCode rs cs qs a w s n N es) none ≡ refuse i (recordCode rs cs qs a M s n i) none
-record-read rs cs qs a M w s n i N es o p q = rw (o, p, q) refl
+-- the record's label and edges, as they are read
+pub record-read : (rs cs a : List ℕ) (K : ℕ) (s : List ℕ) (n i N : ℕ) (es : List ℕ) → N ≡ labelOf s i → es ≡ edgesPart s i
+    → refuse i (nodeCode rs cs a K s n N es) none ≡ refuse i (recordNeeds rs cs a K s n i) none
+record-read rs cs a K s n i N es p q = rw (p, q) refl
 
 -- 10, then 11 to 15
 module _ (rs cs qs a : List ℕ) (M : ℕ) (s : List ℕ) (n : ℕ) where

@@ -5,7 +5,7 @@ ghost use Rattle.logic.specs.Refusals.{refuse, refuseFrom};
 ghost use Rattle.labels.specs.Labels.{valueOf};
 ghost use Rattle.answers.specs.Answers.{refusalOf};
 ghost use Rattle.fillers.specs.Sources.{SourcesOf};
-ghost use Rattle.graph_check.specs.GraphSteps.{formCode, formOf, wantedOf, nodeCode, recordCode, recordsCode, graphCode, tablesCode};
+ghost use Rattle.graph_check.specs.GraphSteps.{formCode, formOf, needOf, nodeCode, recordNeeds, recordCode, recordsCode, graphCode, tablesCode};
 use answers::Tested;
 use edges::edges_ok;
 use evidence::Head;
@@ -19,6 +19,7 @@ use intake::test_tables;
 use labels::Label;
 use nodes::boths_ok;
 use nodes::label_ok;
+use nodes::required;
 use nodes::root_set;
 use parts::read2;
 
@@ -43,26 +44,21 @@ fn test_forms(s: &[u8], n: u8) -> Tested
     Tested::Fine
 }
 
-// What is wanted of record `i`: the literals `want` of record 0, and nothing of any other.
-fn wanted_of(want: Label, i: u8) -> Label
-    ensures { λ r. ⌜ valueOf r ≡ wantedOf (valueOf want) i ⌝ }
+// What record `i` is to have: `first` if it is record 0, and otherwise `later`.
+fn need_of(first: Label, later: Label, i: u8) -> Label
+    ensures { λ r. ⌜ valueOf r ≡ needOf (valueOf first) (valueOf later) i ⌝ }
 {
-    if i == 0 {
-        want
-    } else {
-        Label { high: 0, low: 0 }
-    }
+    if i == 0 { first } else { later }
 }
 
-// Rules 11 to 15 of record `i`, of which `want` is wanted, whose label is `x` and whose edges are `es`, in a graph of `n` records,
-// with the table of sources.
+// Rules 11 to 15 of record `i`, which is to have `need`, whose label is `x` and whose edges are `es`, in a graph of `n` records, with the
+// table of sources.
 fn test_node(
     rs: &[u8],
     cs: &[u8],
-    qs: &[u8],
     a: [u16; 16],
     src: [Label; 32],
-    want: Label,
+    need: Label,
     s: &[u8],
     n: u8,
     i: u8,
@@ -70,9 +66,9 @@ fn test_node(
     es: &[u8],
 ) -> Tested
     requires { ⌜ SourcesOf (now rs) (now cs) a src ⌝ }
-    ensures { λ r. ⌜ refusalOf r ≡ refuse i (nodeCode (now (rs .entry)) (now (cs .entry)) (now (qs .entry)) a (valueOf want) (now (s .entry)) n (valueOf x) (now (es .entry))) none ⌝ }
+    ensures { λ r. ⌜ refusalOf r ≡ refuse i (nodeCode (now (rs .entry)) (now (cs .entry)) a (valueOf need) (now (s .entry)) n (valueOf x) (now (es .entry))) none ⌝ }
 {
-    if !label_ok(cs, qs, x, want) {
+    if !label_ok(cs, x, need) {
         return Tested::Refused(11, i);
     }
     if !boths_ok(cs, x) {
@@ -84,28 +80,26 @@ fn test_node(
     test_fillers(cs, src, s, i, x, es)
 }
 
-// The same, with the record read; here and below, `want` is what is wanted of record 0.
+// The same, with the record read.
 fn test_record(
     rs: &[u8],
     cs: &[u8],
-    qs: &[u8],
     a: [u16; 16],
     src: [Label; 32],
-    want: Label,
+    need: Label,
     s: &[u8],
     n: u8,
     i: u8,
 ) -> Tested
     requires { ⌜ SourcesOf (now rs) (now cs) a src ⌝ }
-    ensures { λ r. ⌜ refusalOf r ≡ refuse i (recordCode (now (rs .entry)) (now (cs .entry)) (now (qs .entry)) a (valueOf want) (now (s .entry)) n i) none ⌝ }
+    ensures { λ r. ⌜ refusalOf r ≡ refuse i (recordNeeds (now (rs .entry)) (now (cs .entry)) a (valueOf need) (now (s .entry)) n i) none ⌝ }
 {
     test_node(
         rs,
         cs,
-        qs,
         a,
         src,
-        wanted_of(want, i),
+        need,
         s,
         n,
         i,
@@ -114,7 +108,7 @@ fn test_record(
     )
 }
 
-// Rules 11 to 15 of the `n` records.
+// Rules 11 to 15 of the `n` records; here and below, `want` is wanted of record 0.
 fn test_records(
     rs: &[u8],
     cs: &[u8],
@@ -127,9 +121,11 @@ fn test_records(
     ensures { λ r. ⌜ refusalOf r ≡ refuseFrom (recordCode (now (rs .entry)) (now (cs .entry)) (now (qs .entry)) a (valueOf want) (now (s .entry)) n) n 0 none ⌝ }
 {
     let src = sources(rs, cs, a);
+    let first = required(qs, want);
+    let later = required(qs, Label { high: 0, low: 0 });
     let mut i: u8 = 0;
     while i < n {
-        let t = test_record(rs, cs, qs, a, src, want, s, n, i);
+        let t = test_record(rs, cs, a, src, need_of(first, later, i), s, n, i);
         let Tested::Fine = t else {
             return t;
         };

@@ -123,7 +123,7 @@ pub fn put(x: Label, l: u8) -> Label
     x
 }
 
-// The label of the literal `l` alone.
+// The label of the literal `l` alone; a label has room for 64.
 pub fn only(l: u8) -> Label
     ensures { λ r. ⌜ valueOf r ≡ labelWith 0 l ⌝ }
 {

@@ -1,14 +1,16 @@
 -- Rules 11 and 12 of a graph's record as the code tests them, on literals by number.
 use Prim.Native.Nat.{ℕ, zero, suc, _+_, _-_, _*_, _/_, _%_, _≤_, _<_}
-use mathlib.Core.Path.{_≡_, refl, sym, _∙_, ap, ap₂}
+use mathlib.Core.Path.{_≡_, refl, sym, _∙_, ap, ap₂, subst}
+use mathlib.Core.Logic.{inl, inr}
 use mathlib.Core.Bool.{Bool, true, false, not, _&&_, _||_}
 use mathlib.Core.List.{List, [], _∷_}
 use native.Mathlib.Omega.{arith}
 use borrow.Author.Tests.{lt-ltb}
 use lib.ListN.{length}
-use Rattle.logic.specs.Tests.{_⇒_}
+use Rattle.logic.specs.Tests.{So, _⇒_, so-and, and-l, and-r, same-test}
 use Rattle.logic.specs.Bounded.{allBelow, all-cong}
-use Rattle.logic.specs.Sets.{has, narrow, within}
+use Rattle.logic.specs.Sets.{has, narrow, within, with}
+use Rattle.logic.specs.SetLaws.{within↔, with↔}
 use Rattle.parts.specs.Numbers.{byteAt, upTo}
 use Rattle.labels.specs.Labels.{labelWith}
 use Rattle.description.specs.Literals.{Literal, opposite, code, literal, entryOf, adding, literalSet, members, code-literal, literal-code, code-entry, within-set}
@@ -24,10 +26,7 @@ abbrev pub opposed : ℕ → ℕ
 opposed l = code (opposite (literal l))
 
 -- ---- 11
--- rule i is in the label N; entry e and its complement are not both
-abbrev pub ruleIn : List ℕ → ℕ → ℕ → Bool
-ruleIn qs N i = has N (byteAt qs (i + 1))
-
+-- entry e and its complement are not both in the label N
 abbrev pub unopposed : ℕ → ℕ → Bool
 unopposed N e = has N (2 * e) ⇒ not (has N (2 * e + 1))
 
@@ -35,34 +34,83 @@ unopposed N e = has N (2 * e) ⇒ not (has N (2 * e + 1))
 abbrev pub entryCount : List ℕ → ℕ
 entryCount cs = upTo 32 (length cs / 6)
 
--- M is the set of what is wanted
-abbrev pub labelCode : List ℕ → ℕ → ℕ → ℕ → Bool
-labelCode qs n N M = narrow N (2 * n)
-    && (has N 0 && (allBelow (length qs - 1) (ruleIn qs N) && (allBelow n (unopposed N) && within M N)))
+-- the set M with the first rules put in; what a label is to have of which M is wanted: that, the rules and literal 0
+unfoldable pub withRules : List ℕ → ℕ → ℕ → ℕ
+withRules qs zero M = M
+withRules qs (suc i) M = labelWith (withRules qs i M) (byteAt qs (i + 1))
 
-abbrev pub labelTestOf : List ℕ → List ℕ → ℕ → ℕ → Bool
-labelTestOf cs qs N M = labelCode qs (entryCount cs) N M
+abbrev pub requiredSet : List ℕ → ℕ → ℕ
+requiredSet qs M = labelWith (withRules qs (length qs - 1) M) 0
 
-pub label-is : (rs cs qs : List ℕ) (W : List Literal) (N : ℕ) → labelCode qs (length cs / 6) N (literalSet W) ≡ labelTest (describe rs cs qs) W N
-unfolding labelTest members
-label-is rs cs qs W N = ap₂ (λ b c. narrow N (2 * n) && (has N 0 && (b && (allBelow n (unopposed N) && c))))
-    (all-cong (length qs - 1) _ _ (λ i _. ap (has N) (sym (code-literal (byteAt qs (i + 1)))))) (within-set W N)
+-- the label N of a table of n entries has what it is to have, the set M
+abbrev pub labelCode : ℕ → ℕ → ℕ → Bool
+labelCode n N M = narrow N (2 * n) && (within M N && allBelow n (unopposed N))
+
+-- the root as a set: what a plain question wants
+abbrev pub rootSet : List ℕ → ℕ
+rootSet qs = labelWith 0 (byteAt qs 0)
+
+-- a label with a literal put in lies within another
+within-put : (M N l : ℕ) → l < 64 → within (labelWith M l) N ≡ (has N l && within M N)
+unfolding labelWith
+within-put M N l h = rw (lt-ltb l 64 h) (same-test (within (with M l) N) (has N l && within M N)
+    (λ u. so-and _ _ (within↔ (with M l) N .0 u l (with↔ M l l .1 (inr refl))) (within↔ M N .1 (λ i v. within↔ (with M l) N .0 u i (with↔ M l i .1 (inl v)))))
+    (λ u. within↔ (with M l) N .1 (λ i v. elim (with↔ M l i .0 v) [
+      | inl w ↦ within↔ M N .0 (and-r (has N l) _ u) i w
+      | inr e ↦ subst (λ j. So (has N j)) (sym e) (and-l (has N l) _ u)
+    ])))
+
+-- a literal of a table that has room in a label, and such a literal put in
+pub has-room : (n l : ℕ) → n ≤ 32 → entryOf (literal l) < n → l < 64
+has-room n l few h = let y : l < 2 * n = rw (code-literal l) at (code-entry (literal l) n .1 h) in omega arith
+
+pub put-is : (n N l : ℕ) → n ≤ 32 → entryOf (literal l) < n → labelWith N l ≡ adding N (literal l)
+unfolding labelWith adding
+put-is n N l few h = rw (lt-ltb l 64 (has-room n l few h), code-literal l) refl
+
+pub root-is : (rs cs qs : List ℕ) → length cs / 6 ≤ 32 → entryOf (literal (byteAt qs 0)) < length cs / 6 → rootSet qs ≡ literalSet (wanted (describe rs cs qs))
+unfolding literalSet
+root-is rs cs qs few h = put-is (length cs / 6) 0 (byteAt qs 0) few h
+
+-- what is required of a label, one by one
+module _ (qs : List ℕ) (N : ℕ) where
+  ruleIn : ℕ → Bool
+  ruleIn i = has N (byteAt qs (i + 1))
+
+  turned : (a b c : Bool) → (a && (b && c)) ≡ ((b && a) && c)
+  turned true true c = refl
+  turned true false c = refl
+  turned false true c = refl
+  turned false false c = refl
+
+  within-rules : (M i : ℕ) → ((j : ℕ) → j < i → byteAt qs (j + 1) < 64) → within (withRules qs i M) N ≡ (allBelow i ruleIn && within M N)
+  unfolding withRules allBelow ruleIn
+  within-rules M zero h = refl
+  within-rules M (suc i) h = within-put (withRules qs i M) N (byteAt qs (i + 1)) (h i (omega arith))
+      ∙ ap (λ b. has N (byteAt qs (i + 1)) && b) (within-rules M i (λ j l. h j (omega arith)))
+      ∙ turned (has N (byteAt qs (i + 1))) (allBelow i ruleIn) (within M N)
+
+-- rule 11, for a table whose literals have room
+pub label-is : (rs cs qs : List ℕ) → length cs / 6 ≤ 32 → ((i : ℕ) → i < length qs - 1 → entryOf (literal (byteAt qs (i + 1))) < length cs / 6)
+    → (W : List Literal) (N : ℕ) → labelCode (length cs / 6) N (requiredSet qs (literalSet W)) ≡ labelTest (describe rs cs qs) W N
+unfolding labelTest members ruleIn
+label-is rs cs qs few rules W N = ap (λ b. narrow N (2 * n) && b) (
+    ap (λ b. b && allBelow n (unopposed N)) (within-put (withRules qs (length qs - 1) (literalSet W)) N 0 (omega arith)
+    ∙ ap (λ b. has N 0 && b) (within-rules qs N (literalSet W) (length qs - 1) (λ j h. has-room n (byteAt qs (j + 1)) few (rules j h))))
+    ∙ arranged (has N 0) (allBelow (length qs - 1) (ruleIn qs N)) (allBelow n (unopposed N)) (within (literalSet W) N)
+    ∙ ap₂ (λ b c. has N 0 && (b && (allBelow n (unopposed N) && c)))
+    (all-cong (length qs - 1) _ _ (λ i _. ap (has N) (sym (code-literal (byteAt qs (i + 1)))))) (within-set W N))
   where
     n : ℕ
     n = length cs / 6
 
--- a literal of a table that fits the label is put in
-pub put-is : (n N : ℕ) (l : Literal) → n ≤ 32 → entryOf l < n → labelWith N (code l) ≡ adding N l
-unfolding labelWith adding
-put-is n N l few h = let z : code l < 64 = let y = code-entry l n .1 h in omega arith in rw (lt-ltb (code l) 64 z) refl
-
--- the root as a set, and as what a plain question wants
-abbrev pub rootSet : List ℕ → ℕ
-rootSet qs = labelWith 0 (byteAt qs 0)
-
-pub root-is : (rs cs qs : List ℕ) → length cs / 6 ≤ 32 → entryOf (literal (byteAt qs 0)) < length cs / 6 → rootSet qs ≡ literalSet (wanted (describe rs cs qs))
-unfolding literalSet
-root-is rs cs qs few h = ap (labelWith 0) (sym (code-literal (byteAt qs 0))) ∙ put-is (length cs / 6) 0 (literal (byteAt qs 0)) few h
+    arranged : (h r u w : Bool) → ((h && (r && w)) && u) ≡ (h && (r && (u && w)))
+    arranged false r u w = refl
+    arranged true false u w = refl
+    arranged true true true true = refl
+    arranged true true true false = refl
+    arranged true true false true = refl
+    arranged true true false false = refl
 
 -- ---- 12
 -- of "both a b", entry e
@@ -85,6 +133,17 @@ both-is rs cs qs N = all-cong (length cs / 6) _ _ (λ e _. kind e (entryOfFields
     kind e (atLeast r l n) = refl
 
 -- ---- laws for the code
+pub rules-none : (qs : List ℕ) (M : ℕ) → M ≡ withRules qs 0 M
+unfolding withRules
+rules-none qs M = refl
+
+pub rules-more : (qs : List ℕ) (i M : ℕ) → labelWith (withRules qs i M) (byteAt qs (i + 1)) ≡ withRules qs (i + 1) M
+unfolding withRules
+rules-more qs i M = let e : suc i ≡ i + 1 = omega arith in ap (λ k. withRules qs k M) e
+
+pub rules-all : (qs : List ℕ) (M n i : ℕ) → i ≡ n → withRules qs i M ≡ withRules qs n M
+rules-all qs M n i e = ap (λ k. withRules qs k M) e
+
 pub opposed-even : (l : ℕ) → l % 2 ≡ 0 → l + 1 ≡ opposed l
 unfolding literal
 opposed-even l h = rw h (omega arith)
@@ -102,9 +161,9 @@ pub parts-read : (N e a b : ℕ) (p q r s t u : Bool) → p ≡ has N (2 * e) �
     → ((not p || (q && r)) && (not s || (t || u))) ≡ partsIn N e a b
 parts-read N e a b p q r s t u hp hq hr hs ht hu = ap (λ z. z && (not s || (t || u))) (if-then p (q && r)) ∙ ap (λ z. (p ⇒ (q && r)) && z) (if-then s (t || u)) ∙ rw (hp, hq, hr, hs, ht, hu) refl
 
-pub label-read : (cs qs : List ℕ) (N n M : ℕ) (p q r s t : Bool) → n ≡ entryCount cs → p ≡ narrow N (2 * n) → q ≡ has N 0
-    → r ≡ allBelow (length qs - 1) (ruleIn qs N) → s ≡ allBelow n (unopposed N) → t ≡ within M N → (p && (q && (r && (s && t)))) ≡ labelTestOf cs qs N M
-label-read cs qs N n M p q r s t hn hp hq hr hs ht = rw (hp, hq, hr, hs, ht, hn) refl
+pub label-read : (cs : List ℕ) (N n M : ℕ) (p q r : Bool) → n ≡ entryCount cs → p ≡ narrow N (2 * n) → q ≡ within M N → r ≡ allBelow n (unopposed N)
+    → (p && (q && r)) ≡ labelCode (entryCount cs) N M
+label-read cs N n M p q r hn hp hq hr = rw (hp, hq, hr, hn) refl
 
 -- a test of "both", on the concept that the code has read
 abbrev pub ofBoth : (ℕ → ℕ → Bool) → Concept → Bool

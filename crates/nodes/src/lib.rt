@@ -5,12 +5,13 @@ ghost use Prim.Native.Nat.{_+_, _-_, _*_, _/_, _<_, _≤_};
 ghost use lib.ListN.{length};
 ghost use Rattle.logic.specs.Bounded.{allBelow};
 ghost use Rattle.labels.specs.Labels.{valueOf};
-ghost use Rattle.nodes.specs.NodeSteps.{opposed, entryCount, ruleIn, unopposed, labelTestOf, rootSet, partsIn, bothAt};
+ghost use Rattle.nodes.specs.NodeSteps.{opposed, entryCount, withRules, requiredSet, unopposed, labelCode, rootSet, partsIn, bothAt};
 use labels::Label;
 use labels::below;
 use labels::holds;
 use labels::lies_within;
 use labels::only;
+use labels::put;
 use parts::byte;
 use parts::up_to;
 use tables::Concept;
@@ -24,27 +25,25 @@ pub fn opposite(l: u8) -> u8
     if l % 2 == 0 { l + 1 } else { l - 1 }
 }
 
-// Whether the label holds rule `i`.
-fn rule_in(qs: &[u8], x: Label, i: usize) -> bool
-    requires { ⌜ i < length (now qs) ⌝ }
-    ensures { λ r. ⌜ r ≡ ruleIn (now (qs .entry)) (valueOf x) i ⌝ }
-{
-    holds(x, byte(qs, i + 1))
-}
-
-// Whether the label holds every rule.
-fn rules_in(qs: &[u8], x: Label) -> bool
-    ensures { λ r. ⌜ r ≡ allBelow (length (now (qs .entry)) - 1) (ruleIn (now (qs .entry)) (valueOf x)) ⌝ }
+// The set `x` with every rule put in.
+fn with_rules(qs: &[u8], x: Label) -> Label
+    ensures { λ r. ⌜ valueOf r ≡ withRules (now (qs .entry)) (length (now (qs .entry)) - 1) (valueOf x) ⌝ }
 {
     let n = qs.len();
+    let mut y = x;
     let mut i: usize = 0;
     while i + 1 < n {
-        if !rule_in(qs, x, i) {
-            return false;
-        }
+        y = put(y, byte(qs, i + 1));
         i += 1;
     }
-    true
+    y
+}
+
+// What a label is to have of which `want` is wanted: that, the rules and literal 0. Made once a graph, since every label is asked.
+pub fn required(qs: &[u8], want: Label) -> Label
+    ensures { λ r. ⌜ valueOf r ≡ requiredSet (now (qs .entry)) (valueOf want) ⌝ }
+{
+    put(with_rules(qs, want), 0)
 }
 
 // Whether the label does not hold both entry `e` and its complement.
@@ -77,24 +76,22 @@ pub fn entry_count(cs: &[u8]) -> u8
     up_to(32, cs.len() / 6)
 }
 
-// What a plain question wants of record 0, and of a list's end beside literal 0: the root.
+// What a plain question wants: the root.
 pub fn root_set(qs: &[u8]) -> Label
     ensures { λ r. ⌜ valueOf r ≡ rootSet (now (qs .entry)) ⌝ }
 {
     only(byte(qs, 0))
 }
 
-// Rule 11 of a record with the label `x`, of which the literals `want` are wanted.
-pub fn label_ok(cs: &[u8], qs: &[u8], x: Label, want: Label) -> bool
-    ensures { λ r. ⌜ r ≡ labelTestOf (now (cs .entry)) (now (qs .entry)) (valueOf x) (valueOf want) ⌝ }
+// Rule 11 of a record with the label `x`, which is to have the literals `need`.
+pub fn label_ok(cs: &[u8], x: Label, need: Label) -> bool
+    ensures { λ r. ⌜ r ≡ labelCode (entryCount (now (cs .entry))) (valueOf x) (valueOf need) ⌝ }
 {
     let n = entry_count(cs);
     let table = below(x, 2 * n);
-    let top = holds(x, 0);
-    let rules = rules_in(qs, x);
+    let needed = lies_within(need, x);
     let apart = consistent(x, n);
-    let wanted = lies_within(want, x);
-    table & (top & (rules & (apart & wanted)))
+    table & (needed & apart)
 }
 
 // Whether the label holds the two parts of "both a b", entry `e`, or denies one with it.

@@ -54,15 +54,17 @@ lineFeed = 10 ∷ []
 unfoldable pub textOf : Answer → List ℕ
 textOf a = wordText (a .word) ++ space ++ decimal (a .number) ++ space ++ decimal (a .place) ++ lineFeed
 
--- lines of 01: INHABITED 0 0 of P1, EMPTY 0 0 of P2, REFUSED 15 0 of P5; and the longest, REFUSED 255 255
+-- lines of 01: INHABITED 0 0 of P1, EMPTY 0 0 of P2, REFUSED 15 0 of P5; the longest refusal, REFUSED 255 255; and HOLDS OF NOTHING 0 0, of 02
 pub lines : map textOf (
     record { word = INHABITED; number = 0; place = 0 } ∷ record { word = EMPTY; number = 0; place = 0 }
-    ∷ record { word = REFUSED; number = 15; place = 0 } ∷ record { word = REFUSED; number = 255; place = 255 } ∷ []
+    ∷ record { word = REFUSED; number = 15; place = 0 } ∷ record { word = REFUSED; number = 255; place = 255 }
+    ∷ record { word = HOLDS-OF-NOTHING; number = 0; place = 0 } ∷ []
     ) ≡ (
     (73 ∷ 78 ∷ 72 ∷ 65 ∷ 66 ∷ 73 ∷ 84 ∷ 69 ∷ 68 ∷ 32 ∷ 48 ∷ 32 ∷ 48 ∷ 10 ∷ [])
     ∷ (69 ∷ 77 ∷ 80 ∷ 84 ∷ 89 ∷ 32 ∷ 48 ∷ 32 ∷ 48 ∷ 10 ∷ [])
     ∷ (82 ∷ 69 ∷ 70 ∷ 85 ∷ 83 ∷ 69 ∷ 68 ∷ 32 ∷ 49 ∷ 53 ∷ 32 ∷ 48 ∷ 10 ∷ [])
     ∷ (82 ∷ 69 ∷ 70 ∷ 85 ∷ 83 ∷ 69 ∷ 68 ∷ 32 ∷ 50 ∷ 53 ∷ 53 ∷ 32 ∷ 50 ∷ 53 ∷ 53 ∷ 10 ∷ [])
+    ∷ (72 ∷ 79 ∷ 76 ∷ 68 ∷ 83 ∷ 32 ∷ 79 ∷ 70 ∷ 32 ∷ 78 ∷ 79 ∷ 84 ∷ 72 ∷ 73 ∷ 78 ∷ 71 ∷ 32 ∷ 48 ∷ 32 ∷ 48 ∷ 10 ∷ [])
     ∷ [])
 unfolding textOf decimal
 lines = refl

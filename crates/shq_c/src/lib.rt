@@ -2,13 +2,13 @@
 ghost use mathlib.Core.Path.{_≡_};
 ghost use Prim.Native.Nat.{_+_, _*_};
 ghost use lib.ListN.{length};
-ghost use Rattle.answers.specs.Answers.{ofVerdict, ofClaim, ofWritten, ofReading};
+ghost use Rattle.answers.specs.Answers.{ofVerdict, ofJudgement, ofWritten, ofReading};
 ghost use Rattle.verdict.specs.Verdict.{verdict};
 ghost use Rattle.claims.specs.Claims.{claimAnswer};
 ghost use Rattle.line_writer.specs.Writing.{writeAnswer, bufferAfter};
 ghost use Rattle.line_reader.specs.Reading.{readAnswer};
 ghost use Rattle.shq_c.specs.Packed.{packed};
-use answers::Claim;
+use answers::Judgement;
 use answers::Reading;
 use answers::Verdict;
 use answers::Written;
@@ -34,14 +34,14 @@ fn of_verdict(v: Verdict) -> u32
     }
 }
 
-fn of_claim(v: Claim) -> u32
-    ensures { λ r. ⌜ r ≡ packed (ofClaim v) ⌝ }
+fn of_judgement(v: Judgement) -> u32
+    ensures { λ r. ⌜ r ≡ packed (ofJudgement v) ⌝ }
 {
     match v {
-        Claim::Holds => 262144,
-        Claim::Fails => 327680,
-        Claim::HoldsOfNothing => 393216,
-        Claim::Refused(n, i) => refused(n, i),
+        Judgement::Holds => 262144,
+        Judgement::Fails => 327680,
+        Judgement::HoldsOfNothing => 393216,
+        Judgement::Refused(n, i) => refused(n, i),
     }
 }
 
@@ -72,12 +72,12 @@ pub extern "C" fn shq_check(description: &[u8], evidence: &[u8]) -> u32
     of_verdict(check_evidence(description, evidence))
 }
 
-// The answer on the claim that every `c` is `d`, with one piece of evidence or two; the second may be empty.
+// The answer on the claim that every `c` is `d`; an empty second piece is none.
 #[no_mangle]
 pub extern "C" fn shq_claim(description: &[u8], c: u8, d: u8, first: &[u8], second: &[u8]) -> u32
     ensures { λ r. ⌜ r ≡ packed (claimAnswer (now (description .entry)) c d (now (first .entry)) (now (second .entry))) ⌝ }
 {
-    of_claim(check_claim(description, c, d, first, second))
+    of_judgement(check_claim(description, c, d, first, second))
 }
 
 // The line of a graph, written into the buffer; on a refusal no byte of it changes.

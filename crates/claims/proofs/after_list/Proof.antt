@@ -27,17 +27,20 @@ enum-told-3 c = search needs
 
 returns-2 : tie.Need-returns-2
 unfolding pieces
-returns-2 c = second-some (RefutationOf 0) _ (c .before .before .before .before .before .args .second .now) (c .before .before .before .if1 .left)
+returns-2 c = second-some (RefutationOf 0) _ (c .before .before .before .before .before .args .second .now)
+    (c .before .before .before .if1 .left)
     (sym (c .enum-told .given .1) ∙ c .before .before .read-head .ensures .0)
 
 returns-3 : tie.Need-returns-3
 unfolding pieces
-returns-3 c = second-some (RefutationOf 0) _ (c .before .before .before .before .before .args .second .now) (c .before .before .before .if1 .left)
+returns-3 c = second-some (RefutationOf 0) _ (c .before .before .before .before .before .args .second .now)
+    (c .before .before .before .if1 .left)
     (sym (c .enum-told2 .given .1) ∙ c .before .before .read-head .ensures .0)
 
 returns-4 : tie.Need-returns-4
 unfolding pieces
-returns-4 c = second-some (RefutationOf 0) _ (c .before .before .before .before .before .args .second .now) (c .before .before .before .if1 .left)
+returns-4 c = second-some (RefutationOf 0) _ (c .before .before .before .before .before .args .second .now)
+    (c .before .before .before .if1 .left)
     (sym (c .enum-told3 .given .1) ∙ c .before .before .read-head .ensures .0)
 
 pub after-list-spec : {M : Type 1} → statement M

@@ -14,7 +14,8 @@ directory-ok-requires : tie.Need-directory-ok-requires
 directory-ok-requires c κs = search needs
 
 returns : tie.Need-returns
-returns c = let g = c .before .before .before .before .before .args in directory-told (g .description .now) (g .c) (g .d) (g .first .now) (g .second .now)
+returns c = let g = c .before .before .before .before .before .args in
+    directory-told (g .description .now) (g .c) (g .d) (g .first .now) (g .second .now)
     (sym (c .before .directory-ok .ensures) ∙ not-true _ (c .if1 .taken))
 
 part-requires : tie.Need-part-requires

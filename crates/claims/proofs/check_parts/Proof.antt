@@ -36,9 +36,13 @@ told-requires : tie.Need-told-requires
 told-requires c κs = search needs
 
 returns : tie.Need-returns
-returns c = let g = c .before .before .before .before .before .before .before .before .before .before .before .args in let a = c .before .before .before .before .before .ancestors in let p = c .before .before .before .before .kinds in
-    c .told .ensures ∙ ap (λ t. endsIn (p .result) (refusalOf t)) (c .before .enum-told2 .given .1)
-    ∙ asked-stops (g .rs .now) (g .cs .now) (g .qs .now) (a .result) (g .k .c) (g .k .d) (g .first .now) (g .second .now) (a .ensures) (p .result) (p .ensures) _
+returns c = let u = c .before .before .before .before .before .before in
+    let g = u .before .before .before .before .before .args in
+    let a = c .before .before .before .before .before .ancestors in
+    let p = c .before .before .before .before .kinds in
+    c .told .ensures ∙ ap (λ t. endsIn (p .result) (refusalOf t)) (c .before .enum-told2 .given .1) ∙ asked-stops
+    (g .rs .now) (g .cs .now) (g .qs .now) (a .result) (g .k .c) (g .k .d) (g .first .now) (g .second .now)
+    (a .ensures) (p .result) (p .ensures) _
     (sym (c .before .before .before .test-asked .ensures) ∙ ap refusalOf (c .before .enum-told2 .given .1))
 
 enum-told-3 : tie.Need-enum-told-3
@@ -60,12 +64,22 @@ told-requires-2 : tie.Need-told-requires-2
 told-requires-2 c κs = search needs
 
 returns-2 : tie.Need-returns-2
-returns-2 c = let g = c .before .before .before .before .before .before .before .before .before .before .before .before .before .before .before .before .before .args in let a = c .before .before .before .before .before .before .before .before .before .before .before .ancestors in let p = c .before .before .before .before .before .before .before .before .before .before .kinds in
-    let u = c .before .enum-told5 .given .1 in
-    c .told2 .ensures ∙ pieces-end (g .rs .now) (g .cs .now) (g .qs .now) (a .result) (g .k .c) (g .k .d) (g .first .now) (g .second .now) (a .ensures) (p .result) (p .ensures)
-    (sym (c .before .before .before .before .before .before .before .before .before .test-asked .ensures) ∙ ap refusalOf (c .before .before .before .before .before .before .before .enum-told .given .1))
-    _ (ap refusalOf u ∙ list-stops (g .rs .now) (g .cs .now) (g .qs .now) (a .result) (g .k .c) (g .k .d) (g .first .now) (g .second .now) (p .result) (c .before .before .before .before .before .enum-told3 .given .1) _
-    (sym (ap (λ M. listCode (g .rs .now) (g .cs .now) (g .qs .now) (a .result) M (g .first .now)) (c .before .before .before .before .counterexample .ensures)) ∙ sym (c .before .before .before .test-list .ensures) ∙ ap refusalOf u))
+returns-2 c = let u = c .before .before .before .before .before .before in
+    let v = u .before .before .before .before .before .before in
+    let g = v .before .before .before .before .before .args in
+    let a = u .before .before .before .before .before .ancestors in
+    let p = u .before .before .before .before .kinds in
+    let e = c .before .enum-told5 .given .1 in
+    c .told2 .ensures ∙ pieces-end
+    (g .rs .now) (g .cs .now) (g .qs .now) (a .result) (g .k .c) (g .k .d) (g .first .now) (g .second .now)
+    (a .ensures) (p .result) (p .ensures)
+    (sym (u .before .before .before .test-asked .ensures) ∙ ap refusalOf (u .before .enum-told .given .1)) _
+    (ap refusalOf e ∙ list-stops
+    (g .rs .now) (g .cs .now) (g .qs .now) (a .result) (g .k .c) (g .k .d) (g .first .now) (g .second .now)
+    (p .result) (c .before .before .before .before .before .enum-told3 .given .1) _
+    (sym (ap (λ M. listCode (g .rs .now) (g .cs .now) (g .qs .now) (a .result) M (g .first .now))
+    (c .before .before .before .before .counterexample .ensures))
+    ∙ sym (c .before .before .before .test-list .ensures) ∙ ap refusalOf e))
 
 only-requires : tie.Need-only-requires
 only-requires c κs = search needs
@@ -113,38 +127,87 @@ told-requires-7 : tie.Need-told-requires-7
 told-requires-7 c κs = search needs
 
 returns-3 : tie.Need-returns-3
-returns-3 c = let g = c .before .before .before .before .before .before .before .before .before .before .before .before .before .before .before .before .before .before .before .args in let a = c .before .before .before .before .before .before .before .before .before .before .before .before .before .ancestors in let p = c .before .before .before .before .before .before .before .before .before .before .before .before .kinds in
-    c .told3 .ensures ∙ pieces-end (g .rs .now) (g .cs .now) (g .qs .now) (a .result) (g .k .c) (g .k .d) (g .first .now) (g .second .now) (a .ensures) (p .result) (p .ensures)
-    (sym (c .before .before .before .before .before .before .before .before .before .before .before .test-asked .ensures) ∙ ap refusalOf (c .before .before .before .before .before .before .before .before .before .enum-told .given .1))
-    _ (c .before .test-graph .ensures ∙ ap (λ M. graphCode (g .rs .now) (g .cs .now) (g .qs .now) (a .result) M (g .second .now)) (c .before .before .only .ensures)
-    ∙ list-on (g .rs .now) (g .cs .now) (g .qs .now) (a .result) (g .k .c) (g .k .d) (g .first .now) (g .second .now) (p .result) (c .before .before .before .before .before .before .before .enum-told3 .given .1)
-    (sym (ap (λ M. listCode (g .rs .now) (g .cs .now) (g .qs .now) (a .result) M (g .first .now)) (c .before .before .before .before .before .before .counterexample .ensures)) ∙ sym (c .before .before .before .before .before .test-list .ensures) ∙ ap refusalOf (c .before .before .before .enum-told4 .given .1)))
+returns-3 c = let u = c .before .before .before .before .before .before in
+    let v = u .before .before .before .before .before .before in
+    let w = v .before .before .before .before .before .before in
+    let g = w .before .args in
+    let a = v .before .ancestors in
+    let p = v .kinds in
+    c .told3 .ensures ∙ pieces-end
+    (g .rs .now) (g .cs .now) (g .qs .now) (a .result) (g .k .c) (g .k .d) (g .first .now) (g .second .now)
+    (a .ensures) (p .result) (p .ensures)
+    (sym (u .before .before .before .before .before .test-asked .ensures) ∙ ap refusalOf (u .before .before .before .enum-told .given .1)) _
+    (c .before .test-graph .ensures
+    ∙ ap (λ M. graphCode (g .rs .now) (g .cs .now) (g .qs .now) (a .result) M (g .second .now))
+    (c .before .before .only .ensures)
+    ∙ list-on
+    (g .rs .now) (g .cs .now) (g .qs .now) (a .result) (g .k .c) (g .k .d) (g .first .now) (g .second .now)
+    (p .result) (u .before .enum-told3 .given .1)
+    (sym (ap (λ M. listCode (g .rs .now) (g .cs .now) (g .qs .now) (a .result) M (g .first .now))
+    (u .counterexample .ensures))
+    ∙ sym (c .before .before .before .before .before .test-list .ensures) ∙ ap refusalOf (c .before .before .before .enum-told4 .given .1)))
 
 returns-4 : tie.Need-returns-4
-returns-4 c = let g = c .before .before .before .before .before .before .before .before .before .before .before .before .before .before .before .args in let a = c .before .before .before .before .before .before .before .before .before .ancestors in let p = c .before .before .before .before .before .before .before .before .kinds in
-    c .told4 .ensures ∙ pieces-end (g .rs .now) (g .cs .now) (g .qs .now) (a .result) (g .k .c) (g .k .d) (g .first .now) (g .second .now) (a .ensures) (p .result) (p .ensures)
-    (sym (c .before .before .before .before .before .before .before .test-asked .ensures) ∙ ap refusalOf (c .before .before .before .before .before .enum-told .given .1))
-    _ (c .before .test-graph2 .ensures ∙ ap (λ M. graphCode (g .rs .now) (g .cs .now) (g .qs .now) (a .result) M (g .first .now)) (c .before .before .counterexample2 .ensures)
-    ∙ sym (ap (piecesCode (g .rs .now) (g .cs .now) (g .qs .now) (a .result) (g .k .c) (g .k .d) (g .first .now) (g .second .now)) (c .before .before .before .enum-told6 .given .1)))
+returns-4 c = let u = c .before .before .before .before .before .before in
+    let v = u .before .before .before .before .before .before in
+    let g = v .before .before .before .args in
+    let a = u .before .before .before .ancestors in
+    let p = u .before .before .kinds in
+    c .told4 .ensures ∙ pieces-end
+    (g .rs .now) (g .cs .now) (g .qs .now) (a .result) (g .k .c) (g .k .d) (g .first .now) (g .second .now)
+    (a .ensures) (p .result) (p .ensures)
+    (sym (u .before .test-asked .ensures) ∙ ap refusalOf (c .before .before .before .before .before .enum-told .given .1)) _
+    (c .before .test-graph2 .ensures
+    ∙ ap (λ M. graphCode (g .rs .now) (g .cs .now) (g .qs .now) (a .result) M (g .first .now))
+    (c .before .before .counterexample2 .ensures)
+    ∙ sym (ap (piecesCode
+    (g .rs .now) (g .cs .now) (g .qs .now) (a .result) (g .k .c) (g .k .d) (g .first .now) (g .second .now))
+    (c .before .before .before .enum-told6 .given .1)))
 
 returns-5 : tie.Need-returns-5
-returns-5 c = let g = c .before .before .before .before .before .before .before .before .before .before .before .before .before .before .before .args in let a = c .before .before .before .before .before .before .before .before .before .ancestors in let p = c .before .before .before .before .before .before .before .before .kinds in
-    c .told5 .ensures ∙ pieces-end (g .rs .now) (g .cs .now) (g .qs .now) (a .result) (g .k .c) (g .k .d) (g .first .now) (g .second .now) (a .ensures) (p .result) (p .ensures)
-    (sym (c .before .before .before .before .before .before .before .test-asked .ensures) ∙ ap refusalOf (c .before .before .before .before .before .enum-told .given .1))
-    _ (c .before .test-list2 .ensures ∙ ap (λ M. listCode (g .rs .now) (g .cs .now) (g .qs .now) (a .result) M (g .first .now)) (c .before .before .only2 .ensures)
-    ∙ sym (ap (piecesCode (g .rs .now) (g .cs .now) (g .qs .now) (a .result) (g .k .c) (g .k .d) (g .first .now) (g .second .now)) (c .before .before .before .enum-told7 .given .1)))
+returns-5 c = let u = c .before .before .before .before .before .before in
+    let v = u .before .before .before .before .before .before in
+    let g = v .before .before .before .args in
+    let a = u .before .before .before .ancestors in
+    let p = u .before .before .kinds in
+    c .told5 .ensures ∙ pieces-end
+    (g .rs .now) (g .cs .now) (g .qs .now) (a .result) (g .k .c) (g .k .d) (g .first .now) (g .second .now)
+    (a .ensures) (p .result) (p .ensures)
+    (sym (u .before .test-asked .ensures) ∙ ap refusalOf (c .before .before .before .before .before .enum-told .given .1)) _
+    (c .before .test-list2 .ensures
+    ∙ ap (λ M. listCode (g .rs .now) (g .cs .now) (g .qs .now) (a .result) M (g .first .now))
+    (c .before .before .only2 .ensures)
+    ∙ sym (ap (piecesCode
+    (g .rs .now) (g .cs .now) (g .qs .now) (a .result) (g .k .c) (g .k .d) (g .first .now) (g .second .now))
+    (c .before .before .before .enum-told7 .given .1)))
 
 returns-6 : tie.Need-returns-6
-returns-6 c = let g = c .before .before .before .before .before .before .before .before .before .before .before .before .before .args in let a = c .before .before .before .before .before .before .before .ancestors in let p = c .before .before .before .before .before .before .kinds in
-    c .told6 .ensures ∙ pieces-end (g .rs .now) (g .cs .now) (g .qs .now) (a .result) (g .k .c) (g .k .d) (g .first .now) (g .second .now) (a .ensures) (p .result) (p .ensures)
-    (sym (c .before .before .before .before .before .test-asked .ensures) ∙ ap refusalOf (c .before .before .before .enum-told .given .1))
-    _ (ap refusalOf (c .before .before .before .enum-told .given .1) ∙ sym (ap (piecesCode (g .rs .now) (g .cs .now) (g .qs .now) (a .result) (g .k .c) (g .k .d) (g .first .now) (g .second .now)) (c .before .enum-told8 .given .1)))
+returns-6 c = let u = c .before .before .before .before .before .before in
+    let v = u .before .before .before .before .before .before in
+    let g = v .before .args in
+    let a = u .before .ancestors in
+    let p = u .kinds in
+    c .told6 .ensures ∙ pieces-end
+    (g .rs .now) (g .cs .now) (g .qs .now) (a .result) (g .k .c) (g .k .d) (g .first .now) (g .second .now)
+    (a .ensures) (p .result) (p .ensures)
+    (sym (c .before .before .before .before .before .test-asked .ensures) ∙ ap refusalOf (c .before .before .before .enum-told .given .1)) _
+    (ap refusalOf (c .before .before .before .enum-told .given .1) ∙ sym (ap (piecesCode
+    (g .rs .now) (g .cs .now) (g .qs .now) (a .result) (g .k .c) (g .k .d) (g .first .now) (g .second .now))
+    (c .before .enum-told8 .given .1)))
 
 returns-7 : tie.Need-returns-7
-returns-7 c = let g = c .before .before .before .before .before .before .before .before .before .before .before .before .before .args in let a = c .before .before .before .before .before .before .before .ancestors in let p = c .before .before .before .before .before .before .kinds in
-    c .told7 .ensures ∙ pieces-end (g .rs .now) (g .cs .now) (g .qs .now) (a .result) (g .k .c) (g .k .d) (g .first .now) (g .second .now) (a .ensures) (p .result) (p .ensures)
-    (sym (c .before .before .before .before .before .test-asked .ensures) ∙ ap refusalOf (c .before .before .before .enum-told .given .1))
-    _ (ap refusalOf (c .before .before .before .enum-told .given .1) ∙ sym (ap (piecesCode (g .rs .now) (g .cs .now) (g .qs .now) (a .result) (g .k .c) (g .k .d) (g .first .now) (g .second .now)) (c .before .enum-told9 .given .1)))
+returns-7 c = let u = c .before .before .before .before .before .before in
+    let v = u .before .before .before .before .before .before in
+    let g = v .before .args in
+    let a = u .before .ancestors in
+    let p = u .kinds in
+    c .told7 .ensures ∙ pieces-end
+    (g .rs .now) (g .cs .now) (g .qs .now) (a .result) (g .k .c) (g .k .d) (g .first .now) (g .second .now)
+    (a .ensures) (p .result) (p .ensures)
+    (sym (c .before .before .before .before .before .test-asked .ensures) ∙ ap refusalOf (c .before .before .before .enum-told .given .1)) _
+    (ap refusalOf (c .before .before .before .enum-told .given .1) ∙ sym (ap (piecesCode
+    (g .rs .now) (g .cs .now) (g .qs .now) (a .result) (g .k .c) (g .k .d) (g .first .now) (g .second .now))
+    (c .before .enum-told9 .given .1)))
 
 pub check-parts-spec : {M : Type 1} → statement M
 check-parts-spec =

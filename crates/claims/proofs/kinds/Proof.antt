@@ -32,11 +32,13 @@ returns c = let g = c .before .before .before .before .before .args in off-first
     (sym (c .enum-told .given .1) ∙ c .before .before .read-head .ensures .0)
 
 returns-2 : tie.Need-returns-2
-returns-2 c = let g = c .before .before .before .before .before .before .args in c .after-graph .ensures ∙ graph-first (g .first .now) (g .second .now) _
+returns-2 c = let g = c .before .before .before .before .before .before .args in
+    c .after-graph .ensures ∙ graph-first (g .first .now) (g .second .now) _
     (sym (c .before .enum-told2 .given .1) ∙ c .before .before .before .read-head .ensures .0)
 
 returns-3 : tie.Need-returns-3
-returns-3 c = let g = c .before .before .before .before .before .before .args in c .after-list .ensures ∙ list-first (g .first .now) (g .second .now) _
+returns-3 c = let g = c .before .before .before .before .before .before .args in
+    c .after-list .ensures ∙ list-first (g .first .now) (g .second .now) _
     (sym (c .before .enum-told3 .given .1) ∙ c .before .before .before .read-head .ensures .0)
 
 pub kinds-spec : {M : Type 1} → statement M

@@ -36,14 +36,16 @@ in-table-requires-2 c κs = search needs
 returns-2 : tie.Need-returns-2
 returns-2 c = let g = c .before .before .before .before .before .before .before .before .before .args in
     sym (refuse-none 0 (tablesTest (g .rs .now) (g .cs .now) (g .qs .now) (g .a)) _
-    (sym (c .before .before .before .before .before .test-tables .ensures) ∙ ap refusalOf (c .before .before .before .enum-told .given .1)) ∙ test-refuses 0 24 _
+    (sym (c .before .before .before .before .before .test-tables .ensures)
+    ∙ ap refusalOf (c .before .before .before .enum-told .given .1)) ∙ test-refuses 0 24 _
     (ap (λ b. b && inTable (g .cs .now) (g .k .d)) (sym (c .before .before .in-table .ensures))
     ∙ ap (λ b. c .before .before .in-table .result && b) (sym (c .before .in-table2 .ensures)) ∙ not-true _ (c .if1 .taken)))
 
 returns-3 : tie.Need-returns-3
 returns-3 c = let g = c .before .before .before .before .before .before .before .before .before .args in
     sym (refuse-none 0 (tablesTest (g .rs .now) (g .cs .now) (g .qs .now) (g .a)) _
-    (sym (c .before .before .before .before .before .test-tables .ensures) ∙ ap refusalOf (c .before .before .before .enum-told .given .1)) ∙ test-passes 0 24 _
+    (sym (c .before .before .before .before .before .test-tables .ensures)
+    ∙ ap refusalOf (c .before .before .before .enum-told .given .1)) ∙ test-passes 0 24 _
     (ap (λ b. b && inTable (g .cs .now) (g .k .d)) (sym (c .before .before .in-table .ensures))
     ∙ ap (λ b. c .before .before .in-table .result && b) (sym (c .before .in-table2 .ensures)) ∙ not-false _ (c .if1 .left)))
 

@@ -16,16 +16,16 @@ label-ok-requires : tie.Need-label-ok-requires
 label-ok-requires c κs = search needs
 
 returns : tie.Need-returns
-returns c = let g = c .before .before .before .before .before .before .before .args in
-    stops-11 (g .rs .now) (g .cs .now) (g .qs .now) (g .a) (valueOf (g .want)) (g .s .now) (g .n) (g .i) (valueOf (g .x)) (g .es .now)
+returns c = let g = c .before .before .before .before .before .before .args in
+    stops-11 (g .rs .now) (g .cs .now) (g .a) (valueOf (g .need)) (g .s .now) (g .n) (g .i) (valueOf (g .x)) (g .es .now)
     (sym (c .before .label-ok .ensures) ∙ not-true _ (c .if1 .taken))
 
 boths-ok-requires : tie.Need-boths-ok-requires
 boths-ok-requires c κs = search needs
 
 returns-2 : tie.Need-returns-2
-returns-2 c = let g = c .before .before .before .before .before .before .before .before .before .args in
-    stops-12 (g .rs .now) (g .cs .now) (g .qs .now) (g .a) (valueOf (g .want)) (g .s .now) (g .n) (g .i) (valueOf (g .x)) (g .es .now)
+returns-2 c = let g = c .before .before .before .before .before .before .before .before .args in
+    stops-12 (g .rs .now) (g .cs .now) (g .a) (valueOf (g .need)) (g .s .now) (g .n) (g .i) (valueOf (g .x)) (g .es .now)
     (sym (c .before .before .before .label-ok .ensures) ∙ not-false _ (c .before .before .if1 .left))
     (sym (c .before .boths-ok .ensures) ∙ not-true _ (c .if2 .taken))
 
@@ -33,8 +33,8 @@ edges-ok-requires : tie.Need-edges-ok-requires
 edges-ok-requires c κs = search needs
 
 returns-3 : tie.Need-returns-3
-returns-3 c = let g = c .before .before .before .before .before .before .before .before .before .before .before .args in
-    stops-13 (g .rs .now) (g .cs .now) (g .qs .now) (g .a) (valueOf (g .want)) (g .s .now) (g .n) (g .i) (valueOf (g .x)) (g .es .now)
+returns-3 c = let g = c .before .before .before .before .before .before .before .before .before .before .args in
+    stops-13 (g .rs .now) (g .cs .now) (g .a) (valueOf (g .need)) (g .s .now) (g .n) (g .i) (valueOf (g .x)) (g .es .now)
     (sym (c .before .before .before .before .before .label-ok .ensures) ∙ not-false _ (c .before .before .before .before .if1 .left))
     (sym (c .before .before .before .boths-ok .ensures) ∙ not-false _ (c .before .before .if2 .left))
     (sym (c .before .edges-ok .ensures) ∙ not-true _ (c .if3 .taken))
@@ -43,8 +43,8 @@ test-fillers-requires : tie.Need-test-fillers-requires
 test-fillers-requires c κs = search needs
 
 returns-4 : tie.Need-returns-4
-returns-4 c = let b = c .before .before .before .before .before .before .before .before .before .before .before .before in let g = b .args in c .test-fillers .ensures
-    ∙ goes-on (g .rs .now) (g .cs .now) (g .qs .now) (g .a) (valueOf (g .want)) (g .s .now) (g .n) (g .i) (valueOf (g .x)) (g .es .now) (g .src) (b .pre)
+returns-4 c = let b = c .before .before .before .before .before .before .before .before .before .before .before in let g = b .args in c .test-fillers .ensures
+    ∙ goes-on (g .rs .now) (g .cs .now) (g .a) (valueOf (g .need)) (g .s .now) (g .n) (g .i) (valueOf (g .x)) (g .es .now) (g .src) (b .pre)
     (sym (c .before .before .before .before .before .before .label-ok .ensures) ∙ not-false _ (c .before .before .before .before .before .if1 .left))
     (sym (c .before .before .before .before .boths-ok .ensures) ∙ not-false _ (c .before .before .before .if2 .left))
     (sym (c .before .before .edges-ok .ensures) ∙ not-false _ (c .before .if3 .left))

@@ -9,10 +9,6 @@ use Rattle.graph_check.proofs.test_record.Lts as lts
 use Rattle.evidence.proofs.record_edges.Reads as record-edges-reads
 use Rattle.evidence.proofs.record_label.Reads as record-label-reads
 use Rattle.graph_check.proofs.test_node.Reads as test-node-reads
-use Rattle.graph_check.proofs.wanted_of.Reads as wanted-of-reads
-
-wanted-of-requires : tie.Need-wanted-of-requires
-wanted-of-requires c κs = search needs
 
 record-label-requires : tie.Need-record-label-requires
 record-label-requires c κs = search needs
@@ -24,11 +20,10 @@ test-node-requires : tie.Need-test-node-requires
 test-node-requires c κs = search needs
 
 returns : tie.Need-returns
-returns c = let g = c .before .before .before .before .before .before .before .before .args in c .test-node .ensures
-    ∙ record-read (g .rs .now) (g .cs .now) (g .qs .now) (g .a) (valueOf (g .want)) _ (g .s .now) (g .n) (g .i) _ _
-    (c .before .before .before .wanted-of .ensures) (c .before .before .record-label .ensures) (c .before .record-edges .ensures)
+returns c = let g = c .before .before .before .before .before .before .args in c .test-node .ensures
+    ∙ record-read (g .rs .now) (g .cs .now) (g .a) (valueOf (g .need)) (g .s .now) (g .n) (g .i) _ _
+    (c .before .before .record-label .ensures) (c .before .record-edges .ensures)
 
 pub test-record-spec : {M : Type 1} → statement M
 test-record-spec =
-    tie.close
-    (tie.spec wanted-of-requires record-label-requires record-edges-requires test-node-requires returns)
+    tie.close (tie.spec record-label-requires record-edges-requires test-node-requires returns)

@@ -1,11 +1,11 @@
-use Rattle.answers.specs.Answers.{ofClaim}
+use Rattle.answers.specs.Answers.{ofJudgement}
 use Rattle.shq_c.specs.Packed.{packed, refused-packed}
 use mathlib.Core.Path.{refl, sym, _∙_, ap}
 use borrow.Author.Needs.{needs}
-use Rattle.shq_c.proofs.of_claim.Statement.{statement}
-use Rattle.shq_c.proofs.of_claim.Tie as tie
-use Rattle.shq_c.proofs.of_claim.Reads as reads
-use Rattle.shq_c.proofs.of_claim.Lts as lts
+use Rattle.shq_c.proofs.of_judgement.Statement.{statement}
+use Rattle.shq_c.proofs.of_judgement.Tie as tie
+use Rattle.shq_c.proofs.of_judgement.Reads as reads
+use Rattle.shq_c.proofs.of_judgement.Lts as lts
 use Rattle.shq_c.proofs.refused.Reads as refused-reads
 
 enum-told : tie.Need-enum-told
@@ -33,10 +33,10 @@ returns-3 : tie.Need-returns-3
 returns-3 c = rw (c .enum-told3 .given .1) refl
 
 returns-4 : tie.Need-returns-4
-returns-4 c = c .refused .ensures ∙ refused-packed _ _ ∙ ap (λ x. packed (ofClaim x)) (sym (c .before .before .v .given .1))
+returns-4 c = c .refused .ensures ∙ refused-packed _ _ ∙ ap (λ x. packed (ofJudgement x)) (sym (c .before .before .v .given .1))
 
-pub of-claim-spec : {M : Type 1} → statement M
-of-claim-spec =
+pub of-judgement-spec : {M : Type 1} → statement M
+of-judgement-spec =
     tie.close
     (tie.spec
     enum-told
