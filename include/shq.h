@@ -9,7 +9,7 @@
  *   - only shq_write writes, and only to the buffer: on WRITTEN the bytes of the line and none behind them, on a refusal none at all;
  *   - no heap and no globals, so that calls may run beside each other; no recursion deeper than 9 calls;
  *   - description, evidence and line are read where they lie and are never copied.
- * The first two are proved (docs/DECISIONS.md, 4: what that rests on). Stack is measured, and held below 4,096 bytes a call (docs/COST.md).
+ * The first two are proved (docs/DECISIONS.md, 5: what that rests on). Stack is measured, and held below 4,096 bytes a call (docs/COST.md).
  *
  * Asked of the caller:
  *   - each pointer is valid for the length given with it, and is not NULL, not even with length 0;
@@ -29,7 +29,7 @@ extern "C" {
 
 /* An answer is word * 65536 + number * 256 + record. Number and record are 0 unless the word is SHQ_REFUSED. */
 enum shq_words {
-    SHQ_REFUSED = 0,   /* a rule is broken: this says nothing of the class, neither yes nor no */
+    SHQ_REFUSED = 0,   /* a rule is broken: this says nothing of the class or the claim, neither yes nor no */
     SHQ_INHABITED = 1, /* shq_check: such a line can be built */
     SHQ_EMPTY = 2,     /* shq_check: no finite line of any size has the class, and no more than that: it is no yes to a claim */
     SHQ_WRITTEN = 3,   /* shq_write: the line stands in the buffer */
@@ -42,7 +42,7 @@ static inline enum shq_words shq_word(uint32_t answer) { return (enum shq_words)
 static inline unsigned shq_number(uint32_t answer) { return (unsigned)(answer >> 8 & 255); }
 static inline unsigned shq_record(uint32_t answer) { return (unsigned)(answer & 255); }
 
-/* The numbers of refusals. The first that applies is answered, in the order of FORMAT 8. The record is that of the evidence that
+/* The numbers of refusals. The first that applies is answered, in the order of FORMAT 8, and of FORMAT 11 for a claim. The record is that of the evidence that
  * breaks the rule, from 0; of 20 it is the last, and of 1 to 9 and 21 to 24 it is 0.
  *
  *    1  directory      the description is shorter than its head, or its three parts do not fill it one after another
@@ -71,8 +71,8 @@ static inline unsigned shq_record(uint32_t answer) { return (unsigned)(answer & 
  *   24  claim          C or D past the table, or pieces of evidence whose kinds, in their order, fit no answer
  */
 
-/* The most bytes that each can have without a refusal: of evidence as INHABITED and as EMPTY, of the list of a claim that HOLDS, and to
- * pass test 9. */
+/* The most bytes that each can have without a refusal: a graph, as INHABITED or in a claim; a list, as EMPTY or for HOLDS OF NOTHING, and
+ * for HOLDS; evidence, to pass test 9. */
 #define SHQ_DESCRIPTION_MOST 269
 #define SHQ_GRAPH_MOST 11010
 #define SHQ_LIST_MOST 65549
@@ -99,7 +99,7 @@ uint32_t shq_check(const uint8_t *description, size_t description_length,
  *                         empty; 24 of the pieces' kinds; 10 to 20 of the first piece, then of the second. The record is that of the
  *                         piece that is refused; the answer does not say which of the two that is.
  *
- * shq_write asks for the root: it writes the graph of a claim only if that has the root, too. */
+ * shq_write asks for the root: it writes the graph of a claim only if its record 0 has the root, too. */
 uint32_t shq_claim(const uint8_t *description, size_t description_length, uint8_t c, uint8_t d,
                    const uint8_t *first, size_t first_length,
                    const uint8_t *second, size_t second_length);

@@ -46,27 +46,18 @@ pub fn required(qs: &[u8], want: Label) -> Label
     put(with_rules(qs, want), 0)
 }
 
-// Whether the label does not hold both entry `e` and its complement.
-fn consistent_at(x: Label, e: EntryNo) -> bool
-    requires { ⌜ e .0 < 32 ⌝ }
-    ensures { λ r. ⌜ r ≡ unopposed (valueOf x) (e .0) ⌝ }
+// Whether the word holds no even number together with the next one: the mask has the even numbers.
+fn word_apart(x: u32) -> bool
+    ensures { λ r. ⌜ r ≡ allBelow 16 (unopposed x) ⌝ }
 {
-    !(holds(x, 2 * e.0) & holds(x, 2 * e.0 + 1))
+    (x & (x >> 1)) & 1431655765 == 0
 }
 
-// Whether the label holds no literal with its opposite; `n` is the number of entries.
-fn consistent(x: Label, n: u8) -> bool
-    requires { ⌜ n ≤ 32 ⌝ }
-    ensures { λ r. ⌜ r ≡ allBelow n (unopposed (valueOf x)) ⌝ }
+// Whether the label holds no literal with its opposite.
+fn consistent(x: Label) -> bool
+    ensures { λ r. ⌜ r ≡ allBelow 32 (unopposed (valueOf x)) ⌝ }
 {
-    let mut e: u8 = 0;
-    while e < n {
-        if !consistent_at(x, EntryNo(e)) {
-            return false;
-        }
-        e += 1;
-    }
-    true
+    word_apart(x.low) & word_apart(x.high)
 }
 
 // The number of entries of the part `cs`, or 32 if there are more.
@@ -90,7 +81,7 @@ pub fn label_ok(cs: &[u8], x: Label, need: Label) -> bool
     let n = entry_count(cs);
     let table = below(x, 2 * n);
     let needed = lies_within(need, x);
-    let apart = consistent(x, n);
+    let apart = consistent(x);
     table & (needed & apart)
 }
 

@@ -1,55 +1,23 @@
-use Prim.Native.Nat.{_-_, _≤_}
-use mathlib.Core.Path.{_≡_, _∙_, sym}
-use mathlib.Core.Bool.{true}
+use mathlib.Core.Path.{_∙_, ap₂}
+use mathlib.Core.Bool.{_&&_}
 use native.Mathlib.Omega.{arith}
+use Rattle.nodes.specs.NodeSteps.{words-apart}
 use borrow.Author.Needs.{needs}
-use borrow.Author.Tests.{not-true, not-false}
-use Rattle.logic.specs.Bounded.{allBelow, all-none, all-stop, all-more, all-done}
-use Rattle.labels.specs.Labels.{valueOf}
-use Rattle.nodes.specs.NodeSteps.{unopposed}
 use Rattle.nodes.proofs.consistent.Statement.{statement}
 use Rattle.nodes.proofs.consistent.Tie as tie
 use Rattle.nodes.proofs.consistent.Reads as reads
 use Rattle.nodes.proofs.consistent.Lts as lts
-use Rattle.nodes.proofs.consistent_at.Reads as consistent-at-reads
+use Rattle.nodes.proofs.word_apart.Reads as word-apart-reads
 
-abbrev Inv-loop : tie.InvT-loop
-Inv-loop x n e₀ e = (e ≤ n) × (allBelow e (unopposed (valueOf x)) ≡ true)
+word-apart-requires : tie.Need-word-apart-requires
+word-apart-requires c κs = search needs
 
-abbrev μ-loop : tie.MeasureT-loop
-μ-loop x n e₀ e = n - e
+word-apart-requires-2 : tie.Need-word-apart-requires-2
+word-apart-requires-2 c κs = search needs
 
-loop-holds : tie.Need-loop-holds Inv-loop μ-loop
-loop-holds c = (omega arith, all-none _)
-
-consistent-at-requires : tie.Need-consistent-at-requires Inv-loop μ-loop
-consistent-at-requires c κs = search needs
-
-returns : tie.Need-returns Inv-loop μ-loop
-returns c = sym (all-stop _ (c .before .before .before .loop .e) _ (omega arith) (sym (c .before .consistent-at .ensures) ∙ not-true _ (c .if1 .taken)))
-
-add-e : tie.Need-add-e Inv-loop μ-loop
-add-e c = omega arith
-
-loop-less : tie.Need-loop-less Inv-loop μ-loop
-loop-less c = omega arith
-
-loop-again : tie.Need-loop-again Inv-loop μ-loop
-loop-again c = (omega arith, all-more _ (c .before .before .before .loop .e) (c .before .before .before .loop .inv .1) (sym (c .before .consistent-at .ensures) ∙ not-false _ (c .if1 .left)))
-
-returns-2 : tie.Need-returns-2 Inv-loop μ-loop
-returns-2 c = sym (all-done _ (c .before .loop .e) _ (omega arith) (omega arith) (c .before .loop .inv .1))
+returns : tie.Need-returns
+returns c = let x = c .before .before .args .x in
+    ap₂ _&&_ (c .before .word-apart .ensures) (c .word-apart2 .ensures) ∙ words-apart (x .high) (x .low) (omega arith)
 
 pub consistent-spec : {M : Type 1} → statement M
-consistent-spec =
-    tie.close
-    (tie.spec
-    Inv-loop
-    μ-loop
-    loop-holds
-    consistent-at-requires
-    returns
-    add-e
-    loop-less
-    loop-again
-    returns-2)
+consistent-spec = tie.close (tie.spec word-apart-requires word-apart-requires-2 returns)

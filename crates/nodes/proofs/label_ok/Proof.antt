@@ -28,7 +28,7 @@ consistent-requires c κs = search needs
 returns : tie.Need-returns
 returns c = let g = c .before .before .before .before .before .args in let n = c .before .before .before .entry-count in
     label-read (g .cs .now) (valueOf (g .x)) (n .result) (valueOf (g .need)) _ _ _
-    (n .ensures .0) (c .before .before .below .ensures) (c .before .lies-within .ensures) (c .consistent .ensures)
+    (n .ensures) (c .before .before .below .ensures) (c .before .lies-within .ensures) (c .consistent .ensures)
 
 pub label-ok-spec : {M : Type 1} → statement M
 label-ok-spec =
