@@ -34,67 +34,80 @@ __attribute__((noinline)) static size_t painted_over(void)
     return (size_t)(top - (uintptr_t)lowest) - i;
 }
 
-/* The two pieces behind C, D and a length. */
-struct claim {
-    const uint8_t *first, *second;
-    size_t first_length, second_length;
+/* The call that a file asks for, by the ending of its name; the order of `endings`. */
+enum call { WEIGH, CLAIM, WRITE, READ, CALLS };
+static const char *const endings[CALLS] = {".weigh", ".claim", ".write", ".read"};
+
+static enum call call_of(const char *name)
+{
+    const char *ending = strrchr(name, '.');
+    enum call call = WEIGH;
+    while (call < CALLS && (ending == NULL || strcmp(ending, endings[call]) != 0))
+        call++;
+    return call;
+}
+
+struct bytes {
+    const uint8_t *at;
+    size_t length;
 };
 
-static bool cut_claim(const uint8_t *rest, size_t length, struct claim *claim)
+/* The first `length` bytes are cut off and answered; no bytes at address 0 if there are fewer. */
+static struct bytes cut(struct bytes *rest, size_t length)
 {
-    if (length < 5)
-        return false;
-    claim->first = rest + 5;
-    claim->first_length = (size_t)rest[2] * 65536 + (size_t)rest[3] * 256 + rest[4];
-    if (length - 5 < claim->first_length)
-        return false;
-    claim->second = claim->first + claim->first_length;
-    claim->second_length = length - 5 - claim->first_length;
-    return true;
+    struct bytes front = {NULL, 0};
+    if (rest->length < length)
+        return front;
+    front.at = rest->at;
+    front.length = length;
+    rest->at += length;
+    rest->length -= length;
+    return front;
+}
+
+/* Calls with the stack painted, and tells how much of it the call took. */
+static uint32_t make(enum call call, struct bytes description, struct bytes head, struct bytes first, struct bytes rest, size_t *stack)
+{
+    uint32_t answer = 0;
+    paint();
+    if (call == WRITE)
+        answer = shq_write(description.at, description.length, rest.at, rest.length, buffer, sizeof buffer);
+    else if (call == READ)
+        answer = shq_read(description.at, description.length, rest.at, rest.length);
+    else if (call == CLAIM)
+        answer = shq_claim(description.at, description.length, head.at[0], head.at[1], first.at, first.length, rest.at, rest.length);
+    else
+        answer = shq_check(description.at, description.length, rest.at, rest.length);
+    *stack = painted_over();
+    return answer;
 }
 
 int main(int count, char **words)
 {
     static const char *const names[] = {"REFUSED", "INHABITED", "EMPTY", "WRITTEN", "HOLDS", "FAILS", "HOLDS OF NOTHING"};
     FILE *file = count == 2 ? fopen(words[1], "rb") : NULL;
-    const char *ending = count == 2 ? strrchr(words[1], '.') : NULL;
-    bool write = ending != NULL && strcmp(ending, ".write") == 0;
-    bool read = ending != NULL && strcmp(ending, ".read") == 0;
-    bool weigh = ending != NULL && strcmp(ending, ".weigh") == 0;
-    bool claims = ending != NULL && strcmp(ending, ".claim") == 0;
-    if (file == NULL || !(write || read || weigh || claims)) {
+    enum call call = count == 2 ? call_of(words[1]) : CALLS;
+    if (file == NULL || call == CALLS) {
         fputs("usage: measure FILE, a .weigh, .claim, .write or .read that can be read\n", stderr);
         return 2;
     }
-    size_t length = fread(input, 1, sizeof input, file);
-    size_t first = (size_t)input[0] * 256 + input[1];
-    if (length < 2 + first || length == sizeof input) {
+    struct bytes rest = {input, fread(input, 1, sizeof input, file)};
+    bool whole = rest.length < sizeof input;
+    struct bytes length = cut(&rest, 2);
+    struct bytes description = cut(&rest, length.at == NULL ? sizeof input : (size_t)length.at[0] * 256 + length.at[1]);
+    struct bytes head = {NULL, 0}, first = {NULL, 0};
+    if (call == CLAIM) {
+        head = cut(&rest, 5);
+        first = cut(&rest, head.at == NULL ? sizeof input : (size_t)head.at[2] * 65536 + (size_t)head.at[3] * 256 + head.at[4]);
+    }
+    if (!whole || description.at == NULL || (call == CLAIM && first.at == NULL)) {
         fputs("the file is shorter than it says, or too long\n", stderr);
         return 2;
     }
-    const uint8_t *description = input + 2, *second = input + 2 + first;
-    size_t rest = length - 2 - first;
-    struct claim claim = {0};
-    if (claims && !cut_claim(second, rest, &claim)) {
-        fputs("the claim's first piece is shorter than it says\n", stderr);
-        return 2;
-    }
-    uint32_t answer;
-    int status = 0;
-
-    paint();
-    if (write)
-        answer = shq_write(description, first, second, rest, buffer, sizeof buffer);
-    else if (read)
-        answer = shq_read(description, first, second, rest);
-    else if (claims)
-        answer = shq_claim(description, first, second[0], second[1], claim.first, claim.first_length, claim.second, claim.second_length);
-    else
-        answer = shq_check(description, first, second, rest);
-    size_t stack = painted_over();
-
-    if (shq_word(answer) == SHQ_WRITTEN)
-        status = shq_word(shq_read(description, first, buffer, SHQ_LINE_BYTES(buffer[0]))) != SHQ_HOLDS;
+    size_t stack;
+    uint32_t answer = make(call, description, head, first, rest, &stack);
     printf("%s %u %u\t%u\n", names[shq_word(answer)], shq_number(answer), shq_record(answer), (unsigned)stack);
-    return status;
+    bool read_back = shq_word(answer) != SHQ_WRITTEN ||
+                     shq_word(shq_read(description.at, description.length, buffer, SHQ_LINE_BYTES(buffer[0]))) == SHQ_HOLDS;
+    return read_back ? 0 : 1;
 }

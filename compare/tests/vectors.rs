@@ -62,7 +62,7 @@ fn weigh() {
 
 #[test]
 fn claims() {
-    for row in rows(&["claims"], 6) {
+    for row in rows(&["claims", "claims_trials", "claims_worst"], 6) {
         let literal = |field: &String| field.parse().expect("a literal");
         let (c, d) = (literal(&row[1]), literal(&row[2]));
         let answer = match paper::claim(&bytes(&row[0]), c, d, &bytes(&row[3]), &bytes(&row[4])) {
