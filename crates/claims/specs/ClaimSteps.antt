@@ -1,7 +1,7 @@
 -- A claim's tests as the code makes them; for an accepted description they are those of Claims.
 use Prim.Native.Nat.{ℕ, _/_, _<_, _≤_}
 use mathlib.Core.Path.{_≡_, refl, sym, _∙_, ap, ap₂}
-use mathlib.Core.Bool.{Bool, true, false, _&&_}
+use mathlib.Core.Bool.{Bool, true, false, cond, _&&_}
 use mathlib.Core.List.{List}
 use mathlib.Core.Option.{Option, none, some}
 use native.Mathlib.Omega.{arith}
@@ -46,12 +46,13 @@ inTable cs l = ltb (l / 2) (length cs / 6)
 abbrev pub askedCode : List ℕ → List ℕ → List ℕ → List ℕ → ℕ → ℕ → Option Refusal
 askedCode rs cs qs a c d = refuse 0 (tablesTest rs cs qs a) (wholly (unless (inTable cs c && inTable cs d) 24 none))
 
--- the kinds where the first piece is a graph, or a list, of any number of records
-abbrev pub afterGraph : List ℕ → Pieces
-afterGraph t = pieces (GraphOf 0) (secondOf t)
+-- the head of a list, or else of a graph, of n records
+abbrev headFor : Bool → ℕ → Head
+headFor list n = cond list (RefutationOf n) (GraphOf n)
 
-abbrev pub afterList : List ℕ → Pieces
-afterList t = pieces (RefutationOf 0) (secondOf t)
+-- the kinds where the first piece is a list, or else a graph, of any number of records
+abbrev pub kindsAfter : Bool → List ℕ → Pieces
+kindsAfter list t = pieces (headFor list 0) (secondOf t)
 
 -- 10 to 20 of the pieces
 abbrev pub piecesCode : List ℕ → List ℕ → List ℕ → List ℕ → ℕ → ℕ → List ℕ → List ℕ → Pieces → Option Refusal
@@ -72,25 +73,19 @@ partsClaim rs cs qs c d s t = let D = describe rs cs qs in let p = piecesOf s t 
 
 -- ---- laws for the code: the kinds
 -- the number of records does not matter
-pub graph-first : (s t : List ℕ) (n : ℕ) → GraphOf n ≡ headOf s → afterGraph t ≡ piecesOf s t
+pub first-is : (s t : List ℕ) (list : Bool) (n : ℕ) → headFor list n ≡ headOf s → kindsAfter list t ≡ piecesOf s t
 unfolding pieces
-graph-first s t n e = go (secondOf t) ∙ ap (λ h. pieces h (secondOf t)) e
+first-is s t list n e = go list (secondOf t) ∙ ap (λ h. pieces h (secondOf t)) e
   where
-    go : (o : Option Head) → pieces (GraphOf 0) o ≡ pieces (GraphOf n) o
-    go none = refl
-    go (some Heads.the-variants.Off) = refl
-    go (some (GraphOf m)) = refl
-    go (some (RefutationOf m)) = refl
-
-pub list-first : (s t : List ℕ) (n : ℕ) → RefutationOf n ≡ headOf s → afterList t ≡ piecesOf s t
-unfolding pieces
-list-first s t n e = go (secondOf t) ∙ ap (λ h. pieces h (secondOf t)) e
-  where
-    go : (o : Option Head) → pieces (RefutationOf 0) o ≡ pieces (RefutationOf n) o
-    go none = refl
-    go (some Heads.the-variants.Off) = refl
-    go (some (GraphOf m)) = refl
-    go (some (RefutationOf m)) = refl
+    go : (list : Bool) (o : Option Head) → pieces (headFor list 0) o ≡ pieces (headFor list n) o
+    go true none = refl
+    go true (some Heads.the-variants.Off) = refl
+    go true (some (GraphOf m)) = refl
+    go true (some (RefutationOf m)) = refl
+    go false none = refl
+    go false (some Heads.the-variants.Off) = refl
+    go false (some (GraphOf m)) = refl
+    go false (some (RefutationOf m)) = refl
 
 pub off-first : (s t : List ℕ) → Heads.the-variants.Off ≡ headOf s → Off ≡ piecesOf s t
 unfolding pieces
@@ -102,6 +97,24 @@ second-none h t e = rw e refl
 
 pub second-some : (h k : Head) (t : List ℕ) → (length t ≡ 0 → ⊥) → k ≡ headOf t → pieces h (some k) ≡ pieces h (secondOf t)
 second-some h k t n e = rw (ne-eqb (length t) 0 n, e) refl
+
+-- after a list, and after a graph
+module _ (list b : Bool) (q : list ≡ b) (t : List ℕ) where
+  pub after-none : length t ≡ 0 → pieces (headFor b 0) none ≡ kindsAfter list t
+  after-none e = second-none (headFor b 0) t e ∙ sym (ap (λ l. kindsAfter l t) q)
+
+  pub after-some : (k : Head) → (length t ≡ 0 → ⊥) → k ≡ headOf t → pieces (headFor b 0) (some k) ≡ kindsAfter list t
+  after-some k n e = second-some (headFor b 0) k t n e ∙ sym (ap (λ l. kindsAfter l t) q)
+
+pub after-off : (list : Bool) → Off ≡ pieces (headFor list 0) (some Heads.the-variants.Off)
+unfolding pieces
+after-off true = refl
+after-off false = refl
+
+pub after-list : (list : Bool) (n : ℕ) → Misfit ≡ pieces (headFor list 0) (some (RefutationOf n))
+unfolding pieces
+after-list true n = refl
+after-list false n = refl
 
 -- ---- the code's tests are the claim's
 half : (l : ℕ) → l / 2 ≡ entryOf (literal l)

@@ -3,7 +3,7 @@ ghost use mathlib.Core.Path.{_≡_};
 ghost use Rattle.labels.specs.Labels.{valueOf};
 ghost use Rattle.answers.specs.Answers.{refusalOf, ofJudgement};
 ghost use Rattle.claims.specs.Claims.{piecesOf, claimAnswer};
-ghost use Rattle.claims.specs.ClaimSteps.{counterSet, inTable, askedCode, afterGraph, afterList, endsIn, partsClaim};
+ghost use Rattle.claims.specs.ClaimSteps.{counterSet, inTable, askedCode, kindsAfter, endsIn, partsClaim};
 use answers::Judgement;
 use answers::Tested;
 use evidence::Head;
@@ -34,32 +34,25 @@ pub enum Pieces {
     Off,
 }
 
-// The kinds where the first piece is a graph.
-fn after_graph(second: &[u8]) -> Pieces
-    ensures { λ r. ⌜ r ≡ afterGraph (now (second .entry)) ⌝ }
+// The kinds where the first piece is a list, or else a graph.
+fn kinds_after(list: bool, second: &[u8]) -> Pieces
+    ensures { λ r. ⌜ r ≡ kindsAfter list (now (second .entry)) ⌝ }
 {
     if second.len() == 0 {
+        if list {
+            return Pieces::ListAlone;
+        }
         return Pieces::GraphAlone;
     }
     let head = read_head(second);
     match head {
         Head::Off => Pieces::Off,
-        Head::GraphOf(_) => Pieces::Misfit,
-        Head::RefutationOf(_) => Pieces::Misfit,
-    }
-}
-
-// The kinds where the first piece is a list.
-fn after_list(second: &[u8]) -> Pieces
-    ensures { λ r. ⌜ r ≡ afterList (now (second .entry)) ⌝ }
-{
-    if second.len() == 0 {
-        return Pieces::ListAlone;
-    }
-    let head = read_head(second);
-    match head {
-        Head::Off => Pieces::Off,
-        Head::GraphOf(_) => Pieces::ListAndGraph,
+        Head::GraphOf(_) => {
+            if list {
+                return Pieces::ListAndGraph;
+            }
+            Pieces::Misfit
+        }
         Head::RefutationOf(_) => Pieces::Misfit,
     }
 }
@@ -71,8 +64,8 @@ fn kinds(first: &[u8], second: &[u8]) -> Pieces
     let head = read_head(first);
     match head {
         Head::Off => Pieces::Off,
-        Head::GraphOf(_) => after_graph(second),
-        Head::RefutationOf(_) => after_list(second),
+        Head::GraphOf(_) => kinds_after(false, second),
+        Head::RefutationOf(_) => kinds_after(true, second),
     }
 }
 

@@ -1,12 +1,12 @@
 use mathlib.Core.Path.{sym, _∙_}
-use Rattle.claims.specs.ClaimSteps.{graph-first, list-first, off-first}
+use mathlib.Core.Bool.{true, false}
+use Rattle.claims.specs.ClaimSteps.{first-is, off-first}
 use borrow.Author.Needs.{needs}
 use Rattle.claims.proofs.kinds.Statement.{statement}
 use Rattle.claims.proofs.kinds.Tie as tie
 use Rattle.claims.proofs.kinds.Reads as reads
 use Rattle.claims.proofs.kinds.Lts as lts
-use Rattle.claims.proofs.after_graph.Reads as after-graph-reads
-use Rattle.claims.proofs.after_list.Reads as after-list-reads
+use Rattle.claims.proofs.kinds_after.Reads as kinds-after-reads
 use Rattle.evidence.proofs.read_head.Reads as read-head-reads
 
 read-head-requires : tie.Need-read-head-requires
@@ -18,14 +18,14 @@ enum-told c = search needs
 enum-told-2 : tie.Need-enum-told-2
 enum-told-2 c = search needs
 
-after-graph-requires : tie.Need-after-graph-requires
-after-graph-requires c κs = search needs
+kinds-after-requires : tie.Need-kinds-after-requires
+kinds-after-requires c κs = search needs
 
 enum-told-3 : tie.Need-enum-told-3
 enum-told-3 c = search needs
 
-after-list-requires : tie.Need-after-list-requires
-after-list-requires c κs = search needs
+kinds-after-requires-2 : tie.Need-kinds-after-requires-2
+kinds-after-requires-2 c κs = search needs
 
 returns : tie.Need-returns
 returns c = let g = c .before .before .before .before .before .args in off-first (g .first .now) (g .second .now)
@@ -33,12 +33,12 @@ returns c = let g = c .before .before .before .before .before .args in off-first
 
 returns-2 : tie.Need-returns-2
 returns-2 c = let g = c .before .before .before .before .before .before .args in
-    c .after-graph .ensures ∙ graph-first (g .first .now) (g .second .now) _
+    c .kinds-after .ensures ∙ first-is (g .first .now) (g .second .now) false _
     (sym (c .before .enum-told2 .given .1) ∙ c .before .before .before .read-head .ensures .0)
 
 returns-3 : tie.Need-returns-3
 returns-3 c = let g = c .before .before .before .before .before .before .args in
-    c .after-list .ensures ∙ list-first (g .first .now) (g .second .now) _
+    c .kinds-after2 .ensures ∙ first-is (g .first .now) (g .second .now) true _
     (sym (c .before .enum-told3 .given .1) ∙ c .before .before .before .read-head .ensures .0)
 
 pub kinds-spec : {M : Type 1} → statement M
@@ -48,9 +48,9 @@ kinds-spec =
     read-head-requires
     enum-told
     enum-told-2
-    after-graph-requires
+    kinds-after-requires
     enum-told-3
-    after-list-requires
+    kinds-after-requires-2
     returns
     returns-2
     returns-3)
