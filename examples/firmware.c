@@ -45,7 +45,7 @@ static bool build(struct bytes description, struct bytes sample)
 {
     memset(buffer, FILL, sizeof buffer);
     uint32_t written = shq_write(description.at, description.length, sample.at, sample.length, buffer, sizeof buffer);
-    if (shq_word(written) != SHQ_WRITTEN) { /* 21: the line has more than 64 elements */
+    if (shq_word(written) != SHQ_WRITTEN) { /* 21: more than 64 elements; or 11: the root is not in record 0 */
         show_refusal(written);
         return untouched(0);
     }
@@ -153,8 +153,8 @@ static bool claims(void)
     right &= judge("two dead probes, a sample", dead, dead_sample, nothing, SHQ_FAILS * 65536UL);
     right &= judge("no vat, a list", no_vat, no_vat_list, nothing, SHQ_HOLDS_OF_NOTHING * 65536UL);
 
-    /* Alone, or with a sample whose vat has a probe too few by now, the list of "as built" is refused: it does not show that there can be
-     * a vat, nor that there can be none. */
+    /* Alone the list of "as built" is refused (20): it does not show that there can be a vat, nor that there can be none. With the sample
+     * of "as built" that sample is refused (15): its vat has a probe too few by now. */
     right &= judge("no vat, the list as built", no_vat, built_list, nothing, 20 * 256 + 7);
     right &= judge("no vat, the list and the sample as built", no_vat, built_list, built_sample, 15 * 256);
 

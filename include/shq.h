@@ -42,8 +42,8 @@ static inline enum shq_words shq_word(uint32_t answer) { return (enum shq_words)
 static inline unsigned shq_number(uint32_t answer) { return (unsigned)(answer >> 8 & 255); }
 static inline unsigned shq_record(uint32_t answer) { return (unsigned)(answer & 255); }
 
-/* The numbers of refusals. The first that applies is answered, in the order of FORMAT 8, and of FORMAT 11 for a claim. The record is that of the evidence that
- * breaks the rule, from 0; of 20 it is the last, and of 1 to 9 and 21 to 24 it is 0.
+/* The numbers of refusals. The first that applies is answered, in the order of FORMAT 8, and of FORMAT 11 for a claim. The record is that
+ * of the evidence that breaks the rule, from 0; of 20 it is the last, and of 1 to 9 and 21 to 24 it is 0.
  *
  *    1  directory      the description is shorter than its head, or its three parts do not fill it one after another
  *    2  part           roles, concepts or question have a length that is no whole number of items, or too few or too many
@@ -68,7 +68,7 @@ static inline unsigned shq_record(uint32_t answer) { return (unsigned)(answer & 
  *   21  big            the line would have 65 elements or more
  *   22  short          the buffer does not hold the line
  *   23  line form      a line of a wrong length, of no elements or more than 64, or with a name or role that there is not
- *   24  claim          C or D past the table, or pieces of evidence whose kinds, in their order, fit no answer
+ *   24  claim          C or D is no literal of the table, or no answer has pieces of these kinds in this order
  */
 
 /* The most bytes that each can have without a refusal: a graph, as INHABITED or in a claim; a list, as EMPTY or for HOLDS OF NOTHING, and
@@ -90,16 +90,17 @@ uint32_t shq_check(const uint8_t *description, size_t description_length,
 /* Judges the claim "every C is D", where c and d are the numbers of the literals C and D. The root is not used; it is tested all the same.
  *
  *   SHQ_HOLDS             no finite line has an element with C and not D, and some line has one with C.
- *                         Asked for: a list whose last label lies within {0, C, not D}, then a graph whose record 0 has C.
+ *                         Asked for: a list that ends with no literal but 0, C and the opposite of D; behind it a graph with C in record 0.
  *   SHQ_FAILS             some finite line has an element with C and not D.
- *                         Asked for: a graph whose record 0 has C and not D; no second piece (length 0).
+ *                         Asked for: a graph with C and the opposite of D in record 0; no second piece.
  *   SHQ_HOLDS_OF_NOTHING  no finite line of any size has an element with C: the claim is true, and says nothing of any line.
- *                         Asked for: a list whose last label lies within {0, C}; no second piece.
+ *                         Asked for: a list that ends with no literal but 0 and C; no second piece.
  *   SHQ_REFUSED           with 1 to 20 or 24, in this order: 1 to 8; 24 of C and D; 9 of the first piece, and of the second if it is not
- *                         empty; 24 of the pieces' kinds; 10 to 20 of the first piece, then of the second. The record is that of the
- *                         piece that is refused; the answer does not say which of the two that is.
+ *                         empty; 24 of the pieces' kinds; 10 to 20 of the first piece, then of the second. From 10 on the record
+ *                         counts within the piece that is refused; the answer does not say which of the two that is.
  *
- * shq_write asks for the root: it writes the graph of a claim only if its record 0 has the root, too. */
+ * No second piece is a length of 0; its pointer may not be NULL all the same. shq_write asks for the root: it writes the graph of a claim
+ * only if record 0 of it has the root, too. */
 uint32_t shq_claim(const uint8_t *description, size_t description_length, uint8_t c, uint8_t d,
                    const uint8_t *first, size_t first_length,
                    const uint8_t *second, size_t second_length);

@@ -36,7 +36,7 @@ claimTest D c d = unless (literalTest D (literal c) && literalTest D (literal d)
 abbrev pub secondOf : List ℕ → Option Head
 secondOf t = cond (eqb (length t) 0) none (some (headOf t))
 
--- the kinds of the pieces, in the order given: three that fit an answer; others; a piece that is no evidence
+-- what the pieces are, the first and then the second: three that fit an answer; others; a piece that is no evidence
 unfoldable pub pieces : Head → Option Head → Pieces
 pieces Heads.the-variants.Off t = Off
 pieces (GraphOf n) (some Heads.the-variants.Off) = Off

@@ -57,7 +57,7 @@ fn kinds_after(list: bool, second: &[u8]) -> Pieces
     }
 }
 
-// They are read from the heads alone, before any record is.
+// The kinds of both pieces, read from their heads alone.
 fn kinds(first: &[u8], second: &[u8]) -> Pieces
     ensures { λ r. ⌜ r ≡ piecesOf (now (first .entry)) (now (second .entry)) ⌝ }
 {

@@ -14,9 +14,12 @@ named =
     0 ∷ 12 ∷ 0 ∷ 3 ∷ 0 ∷ 15 ∷ 0 ∷ 12 ∷ 0 ∷ 27 ∷ 0 ∷ 1
     ∷ 0 ∷ 0 ∷ 0 ∷ 0 ∷ 0 ∷ 0 ∷ 0 ∷ 0 ∷ 0 ∷ 1 ∷ 0 ∷ 0 ∷ 0 ∷ 0 ∷ 0 ∷ 0 ∷ []
 
--- lists: {1}, and {2, 3}, by step 1
+-- lists: {1}, {0, 1} and {2, 3}, by step 1
 abbrev bottom : List ℕ
 bottom = 2 ∷ 1 ∷ 0 ∷ 6 ∷ 0 ∷ 10 ∷ 0 ∷ 0 ∷ 0 ∷ 0 ∷ 0 ∷ 0 ∷ 0 ∷ 2 ∷ 1 ∷ 1 ∷ []
+
+abbrev bottomTop : List ℕ
+bottomTop = 2 ∷ 1 ∷ 0 ∷ 6 ∷ 0 ∷ 10 ∷ 0 ∷ 0 ∷ 0 ∷ 0 ∷ 0 ∷ 0 ∷ 0 ∷ 3 ∷ 1 ∷ 1 ∷ []
 
 abbrev clash : List ℕ
 clash = 2 ∷ 1 ∷ 0 ∷ 6 ∷ 0 ∷ 10 ∷ 0 ∷ 0 ∷ 0 ∷ 0 ∷ 0 ∷ 0 ∷ 0 ∷ 12 ∷ 1 ∷ 2 ∷ []
@@ -81,6 +84,8 @@ answers =
     ∷ (judges named 0 2 graph0 [], tells (told REFUSED 11 0))
     ∷ (judges named 2 1 graph0 [], tells (told REFUSED 11 0))
     ∷ (judges (top 0) 1 0 bottom [], tells (told HOLDS-OF-NOTHING 0 0))
+    -- literal 0 may stand in the last label, too
+    ∷ (judges (top 0) 1 0 bottomTop [], tells (told HOLDS-OF-NOTHING 0 0))
     ∷ (judges named 2 2 clash [], tells (told REFUSED 20 0))
     ∷ []
 
@@ -90,6 +95,7 @@ orders =
     (judges (top 1) 0 1 graph0 [], tells (told FAILS 0 0))
     ∷ (judges (top 2) 2 0 [] [], tells (told REFUSED 8 0))
     ∷ (judges (top 0) 2 0 [] [], tells (told REFUSED 24 0))
+    ∷ (judges (top 0) 0 2 [] [], tells (told REFUSED 24 0))
     ∷ (judges (top 0) 0 255 [] [], tells (told REFUSED 24 0))
     ∷ (judges (top 0) 0 0 [] [], tells (told REFUSED 9 0))
     ∷ (judges (top 0) 0 0 [] graph0, tells (told REFUSED 9 0))

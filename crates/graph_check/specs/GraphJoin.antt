@@ -7,7 +7,7 @@ use native.Mathlib.Omega.{arith}
 use borrow.Author.Tests.{ne-eqb, le-leb}
 use lib.ListN.{length}
 use Rattle.logic.specs.Tests.{and-l}
-use Rattle.logic.specs.Refusals.{unless, unless↔, unless-then, refuse, refuseFrom, records↔, records-then}
+use Rattle.logic.specs.Refusals.{unless, unless↔, unless-then, refuse, refuse-then, refuseFrom, records↔, records-then, records-later, records-cong}
 use Rattle.logic.specs.Bounded.{allBelow}
 use Rattle.logic.specs.Lists.{each}
 use Rattle.parts.specs.Numbers.{upTo, up-to-all}
@@ -26,7 +26,6 @@ use Rattle.graph.specs.GraphTests.{storedGraph, labelTest, bothTest, edgeTest, 
 use Rattle.nodes.specs.NodeSteps.{entryCount, labelCode, requiredSet, label-is, rootSet, root-is, bothAt, both-is}
 use Rattle.edges.specs.EdgeSteps.{edgesCode, edges-are}
 use Rattle.fillers.specs.FillerLaws.{everys-are, counts-are}
-use Rattle.logic.specs.Refusals.{refuse-then, records-later, records-cong}
 use Rattle.graph_check.specs.GraphEvidence.{graphHead, formAt, graphTests}
 use Rattle.graph_check.specs.GraphSteps.{formOf, needOf, nodeCode, recordCode, recordsCode, graphCode, tablesCode}
 

@@ -1,4 +1,4 @@
-// Tests 9 to 15 of a graph, after those of the tables.
+// Tests 9 to 15 of a graph, for any wanted literals; and of a plain question, after those of the tables.
 ghost use mathlib.Core.Path.{_≡_};
 ghost use mathlib.Core.Option.{none};
 ghost use Rattle.logic.specs.Refusals.{refuse, refuseFrom};

@@ -3,7 +3,7 @@ use Prim.Native.Nat.{ℕ, zero, suc, _+_, _-_, _*_, _/_, _%_, _^_, _≤_, _<_}
 use mathlib.Core.Path.{_≡_, refl, sym, _∙_, ap, ap₂, subst}
 use mathlib.Core.Logic.{_↔_, inl, inr, Iff·rfl}
 use mathlib.Core.Bool.{Bool, true, false, not, _&&_, _||_}
-use mathlib.Core.List.{List, [], _∷_}
+use mathlib.Core.List.{List}
 use native.Mathlib.Omega.{arith}
 use native.Mathlib.Decide.{decLt}
 use borrow.Author.Tests.{lt-ltb}
@@ -38,11 +38,12 @@ unopposed N e = has N (2 * e) ⇒ not (has N (2 * e + 1))
 abbrev pub entryCount : List ℕ → ℕ
 entryCount cs = upTo 32 (length cs / 6)
 
--- the set M with the first rules put in; what a label is to have of which M is wanted: that, the rules and literal 0
+-- the set M with the first i rules put in
 unfoldable pub withRules : List ℕ → ℕ → ℕ → ℕ
 withRules qs zero M = M
 withRules qs (suc i) M = labelWith (withRules qs i M) (byteAt qs (i + 1))
 
+-- what a label is to have of which M is wanted: that, the rules and literal 0
 abbrev pub requiredSet : List ℕ → ℕ → ℕ
 requiredSet qs M = labelWith (withRules qs (length qs - 1) M) 0
 

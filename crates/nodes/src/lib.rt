@@ -39,7 +39,7 @@ fn with_rules(qs: &[u8], x: Label) -> Label
     y
 }
 
-// What a label is to have of which `want` is wanted: that, the rules and literal 0. Made once a graph, since every label is asked.
+// What a label is to have of which `want` is wanted: that, the rules and literal 0. Made twice a graph, and not once a record.
 pub fn required(qs: &[u8], want: Label) -> Label
     ensures { λ r. ⌜ valueOf r ≡ requiredSet (now (qs .entry)) (valueOf want) ⌝ }
 {
