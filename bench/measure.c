@@ -107,7 +107,7 @@ int main(int count, char **words)
     size_t stack;
     uint32_t answer = make(call, description, head, first, rest, &stack);
     printf("%s %u %u\t%u\n", names[shq_word(answer)], shq_number(answer), shq_record(answer), (unsigned)stack);
-    bool read_back = shq_word(answer) != SHQ_WRITTEN ||
-                     shq_word(shq_read(description.at, description.length, buffer, SHQ_LINE_BYTES(buffer[0]))) == SHQ_HOLDS;
+    size_t written = SHQ_LINE_BYTES(shq_entries(description.at, description.length), buffer[0]);
+    bool read_back = shq_word(answer) != SHQ_WRITTEN || shq_word(shq_read(description.at, description.length, buffer, written)) == SHQ_HOLDS;
     return read_back ? 0 : 1;
 }

@@ -49,7 +49,7 @@ static bool build(struct bytes description, struct bytes sample)
         show_refusal(written);
         return untouched(0);
     }
-    size_t length = SHQ_LINE_BYTES(buffer[0]);
+    size_t length = SHQ_LINE_BYTES(shq_entries(description.at, description.length), buffer[0]);
     bool holds = shq_word(shq_read(description.at, description.length, buffer, length)) == SHQ_HOLDS;
     printf("    a line of %u elements, %u bytes; read back it %s\n", (unsigned)buffer[0], (unsigned)length,
            holds ? "HOLDS" : "does not hold");
@@ -84,20 +84,22 @@ static bool weigh(const char *name, struct bytes description, struct bytes evide
     return as_expected(answer, expected) && kept;
 }
 
-/* A list is no sample: the writer refuses it with 9, and leaves every byte. */
-static bool no_line(struct bytes description, struct bytes list)
+/* What is no sample the writer refuses, a list with 9, and leaves every byte. */
+static bool no_line(struct bytes description, struct bytes evidence, uint32_t number)
 {
     memset(buffer, FILL, sizeof buffer);
-    return shq_write(description.at, description.length, list.at, list.length, buffer, sizeof buffer) == 9 * 256 && untouched(0);
+    uint32_t answer = shq_write(description.at, description.length, evidence.at, evidence.length, buffer, sizeof buffer);
+    return as_expected(answer, number * 256) && untouched(0);
 }
 
-/* The claim of live_probe, "every vat has a live probe": the literals C and D, the same in its three descriptions. */
-enum { VAT = 2, LIVE_PROBE = 7 };
+/* The claim "every vat has a live probe": the literals C and D. They are the same in the three descriptions of live_probe; four_presses
+ * has another D, as there the probe may be that of a press. */
+enum { VAT = 2, LIVE_PROBE = 7, LIVE_PART = 77 };
 
 /* Judges the claim and acts on the answer: only HOLDS may let a line run. True as in weigh. */
-static bool judge(const char *name, struct bytes description, struct bytes first, struct bytes second, uint32_t expected)
+static bool judge(const char *name, struct bytes description, uint8_t live, struct bytes first, struct bytes second, uint32_t expected)
 {
-    uint32_t answer = shq_claim(description.at, description.length, VAT, LIVE_PROBE,
+    uint32_t answer = shq_claim(description.at, description.length, VAT, live,
                                 first.at, first.length, second.at, second.length);
     bool kept = true;
     printf("%s: ", name);
@@ -136,7 +138,7 @@ static bool plain_questions(void)
     right &= weigh("four limits, a list", limits, limits_false, 19 * 256 + 7);
     right &= weigh("four limits, a sample", limits, limits_sample, SHQ_INHABITED * 65536UL);
     right &= weigh("no such line, a list", none, none_list, SHQ_EMPTY * 65536UL);
-    right &= no_line(limits, limits_false) && no_line(none, none_list);
+    right &= no_line(limits, limits_false, 9) && no_line(none, none_list, 9);
     return right;
 }
 
@@ -149,14 +151,14 @@ static bool claims(void)
     static const struct bytes plain_list = BYTES(live_probe_no_vat_plain_list);
     static const struct bytes nothing = {live_probe_as_built_list, 0}; /* no second piece; the pointer is valid all the same */
 
-    bool right = judge("as built, a list and a sample", built, built_list, built_sample, SHQ_HOLDS * 65536UL);
-    right &= judge("two dead probes, a sample", dead, dead_sample, nothing, SHQ_FAILS * 65536UL);
-    right &= judge("no vat, a list", no_vat, no_vat_list, nothing, SHQ_HOLDS_OF_NOTHING * 65536UL);
+    bool right = judge("as built, a list and a sample", built, LIVE_PROBE, built_list, built_sample, SHQ_HOLDS * 65536UL);
+    right &= judge("two dead probes, a sample", dead, LIVE_PROBE, dead_sample, nothing, SHQ_FAILS * 65536UL);
+    right &= judge("no vat, a list", no_vat, LIVE_PROBE, no_vat_list, nothing, SHQ_HOLDS_OF_NOTHING * 65536UL);
 
     /* Alone the list of "as built" is refused (20): it does not show that there can be a vat, nor that there can be none. With the sample
      * of "as built" that sample is refused (15): its vat has a probe too few by now. */
-    right &= judge("no vat, the list as built", no_vat, built_list, nothing, 20 * 256 + 7);
-    right &= judge("no vat, the list and the sample as built", no_vat, built_list, built_sample, 15 * 256);
+    right &= judge("no vat, the list as built", no_vat, LIVE_PROBE, built_list, nothing, 20 * 256 + 7);
+    right &= judge("no vat, the list and the sample as built", no_vat, LIVE_PROBE, built_list, built_sample, 15 * 256);
 
     /* The plain question, "a vat without a live probe", is EMPTY both times. EMPTY is no yes to the claim. */
     right &= weigh("as built, the plain question", built, plain_list, SHQ_EMPTY * 65536UL);
@@ -164,10 +166,48 @@ static bool claims(void)
     return right;
 }
 
+/* The line of four_presses without the name of the fourth press, which the vat then lacks; and the line cut to the length that it would
+ * have with name masks of 4 bytes, which is refused with 23. */
+static bool lost_press(struct bytes description, struct bytes sample)
+{
+    enum { FOURTH = 33, RECORD = 4, RECORDS = 7 }; /* the name's entry; the press among the records of the sample */
+    if (shq_word(shq_write(description.at, description.length, sample.at, sample.length, buffer, sizeof buffer)) != SHQ_WRITTEN)
+        return false;
+    size_t d = buffer[0], entries = shq_entries(description.at, description.length);
+    size_t press = RECORD * (d / RECORDS); /* its copy 0, which is the one that a vat has */
+    uint8_t *byte = buffer + SHQ_NAME_BYTES(entries) * (press + 1) - FOURTH / 8; /* in its name mask, high byte first */
+    bool named = *byte >> FOURTH % 8 & 1;
+    *byte ^= 1 << FOURTH % 8;
+    uint32_t lost = shq_read(description.at, description.length, buffer, SHQ_LINE_BYTES(entries, d));
+    uint32_t cut = shq_read(description.at, description.length, buffer, SHQ_LINE_BYTES(SHQ_NARROW_MOST, d));
+    printf("four presses, the line without the fourth: it %s\n", shq_word(lost) == SHQ_FAILS ? "FAILS" : "does not fail");
+    return as_expected(lost, SHQ_FAILS * 65536UL) && as_expected(cut, 23 * 256) && named;
+}
+
+/* Tables on both sides of 32 entries. */
+static bool several_presses(void)
+{
+    static const struct bytes three = BYTES(three_presses_description), three_sample = BYTES(three_presses_graph);
+    static const struct bytes four = BYTES(four_presses_description), four_sample = BYTES(four_presses_graph);
+    static const struct bytes narrow_sample = BYTES(four_presses_narrow_graph), four_list = BYTES(four_presses_live_probe_list);
+    static const struct bytes one = BYTES(one_press_for_two_description), one_list = BYTES(one_press_for_two_list);
+
+    bool right = weigh("three presses, a sample", three, three_sample, SHQ_INHABITED * 65536UL);
+    right &= weigh("four presses, a sample", four, four_sample, SHQ_INHABITED * 65536UL);
+    right &= weigh("four presses, labels of 8 bytes", four, narrow_sample, 10 * 256);
+    right &= weigh("one press for two, a list", one, one_list, SHQ_EMPTY * 65536UL);
+    right &= weigh("four presses, the list of another root", four, one_list, 20 * 256 + 10);
+    right &= no_line(four, narrow_sample, 10) && no_line(one, one_list, 9);
+    right &= judge("four presses, a list and a sample", four, LIVE_PART, four_list, four_sample, SHQ_HOLDS * 65536UL);
+    right &= lost_press(four, four_sample);
+    return right;
+}
+
 int main(void)
 {
     bool right = plain_questions();
     right &= claims();
+    right &= several_presses();
     puts(right ? "all as expected" : "NOT as expected");
     return right ? 0 : 1;
 }

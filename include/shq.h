@@ -54,7 +54,7 @@ static inline unsigned shq_record(uint32_t answer) { return (unsigned)(answer & 
  *    7  missing every  an "every R l" without the "every T l" of a transitive T below R
  *    8  question       root or rule past the table
  *    9  bundle         the evidence's head or its records' places are off, or a closing list was to be written as a line
- *   10  form           a record of a length, step or shape that there is not
+ *   10  form           a record of a length, step or shape that there is not, so also a graph with labels of the other width
  *   11  label          a graph's label with a literal too many, too few, or beside its opposite
  *   12  both           a "both" in a label without its two literals, or its complement without the opposite of one
  *   13  edge           an edge with a target, a set of roles or a count that there cannot be
@@ -73,15 +73,27 @@ static inline unsigned shq_record(uint32_t answer) { return (unsigned)(answer & 
 
 /* The most bytes that each can have without a refusal: a graph, as INHABITED or in a claim; a list, as EMPTY or for HOLDS OF NOTHING, and
  * for HOLDS; evidence, to pass test 9. */
-#define SHQ_DESCRIPTION_MOST 269
-#define SHQ_GRAPH_MOST 11010
-#define SHQ_LIST_MOST 65549
-#define SHQ_CLAIM_LIST_MOST 69386
+#define SHQ_DESCRIPTION_MOST 461
+#define SHQ_GRAPH_MOST 11522
+#define SHQ_LIST_MOST 65557
+#define SHQ_CLAIM_LIST_MOST 69394
 #define SHQ_EVIDENCE_MOST 131070
-#define SHQ_LINE_MOST 8449
+#define SHQ_LINE_MOST 8705
 
-/* The bytes of a line of d elements; d is the line's first byte, 1 to 64. */
-#define SHQ_LINE_BYTES(d) ((size_t)1 + 4 * (size_t)(d) + 2 * (size_t)(d) * (size_t)(d))
+/* A description of more than 32 concept entries is wide: each label of its evidence takes 16 bytes in place of 8, and each name mask of its
+ * lines 8 in place of 4. shq_entries gives the number of entries that a description's directory tells, 0 if it has no whole directory; it
+ * means something for an accepted description alone. */
+#define SHQ_ENTRIES_MOST 64
+#define SHQ_NARROW_MOST 32
+#define SHQ_LABEL_BYTES(entries) ((entries) > SHQ_NARROW_MOST ? 16 : 8)
+#define SHQ_NAME_BYTES(entries) ((entries) > SHQ_NARROW_MOST ? 8 : 4)
+
+static inline size_t shq_entries(const uint8_t *description, size_t description_length) {
+    return description_length < 12 ? 0 : (size_t)(description[6] * 256 + description[7]) / 6;
+}
+
+/* The bytes of a line of d elements, of a description with so many entries; d is the line's first byte, 1 to 64. */
+#define SHQ_LINE_BYTES(entries, d) ((size_t)1 + SHQ_NAME_BYTES(entries) * (size_t)(d) + 2 * (size_t)(d) * (size_t)(d))
 
 /* Weighs evidence: SHQ_INHABITED, SHQ_EMPTY, or SHQ_REFUSED with 1 to 20. */
 uint32_t shq_check(const uint8_t *description, size_t description_length,
@@ -107,7 +119,7 @@ uint32_t shq_claim(const uint8_t *description, size_t description_length, uint8_
 
 /* Writes the line of a sample graph: SHQ_WRITTEN, or SHQ_REFUSED with 1 to 15, 21 or 22.
  * It is written exactly if shq_check answers SHQ_INHABITED, 64 elements are enough and so is the buffer.
- * What it wrote, SHQ_LINE_BYTES(buffer[0]) bytes, shq_read answers with SHQ_HOLDS. */
+ * What it wrote, SHQ_LINE_BYTES(shq_entries(description, description_length), buffer[0]) bytes, shq_read answers with SHQ_HOLDS. */
 uint32_t shq_write(const uint8_t *description, size_t description_length,
                    const uint8_t *evidence, size_t evidence_length,
                    uint8_t *buffer, size_t buffer_length);

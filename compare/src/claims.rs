@@ -51,7 +51,7 @@ fn with_error(r: &mut Random, c: &mut Comparison, description: &Description, who
     let exception = Label::of(&[whole.c, opposite(whole.d)]);
     if let Some(closings) = refutations::search(r, description, exception, known, 1) {
         let mut given = whole.clone();
-        given.first = encode::list(&closings);
+        given.first = encode::list(description.width(), &closings);
         c.claim(&given);
     }
 }

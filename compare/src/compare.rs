@@ -3,6 +3,7 @@
 use crate::library;
 use compare::make::spoil_claim::Given;
 use compare::paper;
+use compare::paper::label::{Width, WIDTHS};
 
 /// Bytes before and after a buffer that the writer must leave alone.
 const GUARD: usize = 64;
@@ -20,7 +21,7 @@ pub const KINDS: [Kind; 3] = [Kind::Plain, Kind::OnePiece, Kind::TwoPieces];
 /// The numbers of refusals, and 0.
 pub const NUMBERS: usize = 25;
 
-/// The answers to inputs of one kind.
+/// The answers to inputs of one kind at one width.
 #[derive(Default)]
 pub struct Tally {
     /// How often each word came.
@@ -38,23 +39,23 @@ impl Tally {
 #[derive(Default)]
 pub struct Comparison {
     pub differences: usize,
-    tallies: [Tally; KINDS.len()],
+    tallies: [[Tally; WIDTHS.len()]; KINDS.len()],
 }
 
 impl Comparison {
-    pub fn tally(&self, kind: Kind) -> &Tally {
-        &self.tallies[kind as usize]
+    pub fn tally(&self, kind: Kind, width: Width) -> &Tally {
+        &self.tallies[kind as usize][width as usize]
     }
 
     pub fn inputs(&self) -> usize {
-        self.tallies.iter().map(Tally::inputs).sum()
+        self.tallies.iter().flatten().map(Tally::inputs).sum()
     }
 
     pub fn check(&mut self, description: &[u8], evidence: &[u8]) {
         let expected = library::code(paper::check(description, evidence));
         let (d, e) = (self.placed(description), self.placed(evidence));
         let found = library::check(d.bytes(), e.bytes());
-        if !self.count(Kind::Plain, expected, found) {
+        if !self.count(Kind::Plain, description, expected, found) {
             tell("check", expected, found, &[description, evidence]);
         }
     }
@@ -63,7 +64,7 @@ impl Comparison {
         let expected = library::code(paper::read(description, line));
         let (d, l) = (self.placed(description), self.placed(line));
         let found = library::read(d.bytes(), l.bytes());
-        if !self.count(Kind::Plain, expected, found) {
+        if !self.count(Kind::Plain, description, expected, found) {
             tell("read", expected, found, &[description, line]);
         }
     }
@@ -80,7 +81,7 @@ impl Comparison {
             true => Kind::OnePiece,
             false => Kind::TwoPieces,
         };
-        if !self.count(kind, expected, found) {
+        if !self.count(kind, description, expected, found) {
             println!("C {c}, D {d}:");
             tell("claim", expected, found, &slices);
         }
@@ -96,7 +97,7 @@ impl Comparison {
         let expected = library::code(answer);
         let (d, e) = (self.placed(description), self.placed(evidence));
         let found = library::write(d.bytes(), e.bytes(), &mut theirs[middle]);
-        let same = self.count(Kind::Plain, expected, found);
+        let same = self.count(Kind::Plain, description, expected, found);
         if same && ours == theirs {
             return;
         }
@@ -122,8 +123,8 @@ impl Comparison {
     }
 
     /// Counts an input; false if the answers differ.
-    fn count(&mut self, kind: Kind, expected: u32, found: u32) -> bool {
-        let tally = &mut self.tallies[kind as usize];
+    fn count(&mut self, kind: Kind, description: &[u8], expected: u32, found: u32) -> bool {
+        let tally = &mut self.tallies[kind as usize][told_width(description) as usize];
         tally.words[(expected >> 16) as usize] += 1;
         if expected < 65536 {
             tally.refusals[(expected >> 8) as usize] += 1;
@@ -131,6 +132,16 @@ impl Comparison {
         let same = expected == found;
         self.differences += !same as usize;
         same
+    }
+}
+
+/// The width by the table's length as the description tells it, right or wrong.
+fn told_width(description: &[u8]) -> Width {
+    match description {
+        [_, _, _, _, _, _, high, low, ..] => {
+            Width::of_table(u16::from_be_bytes([*high, *low]) as usize / 6)
+        }
+        _ => Width::Narrow,
     }
 }
 

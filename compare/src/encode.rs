@@ -2,6 +2,7 @@
 
 use crate::paper::description::{Concept, Description};
 use crate::paper::evidence::{Closing, Counting, Node, Step, Tree};
+use crate::paper::label::Width;
 
 /// Pairs (offset, length) from byte `at` on, then the parts. What is too long for a pair
 /// is cut to 16 bits, as a damaged input may be.
@@ -59,18 +60,24 @@ pub fn bundle(kind: u8, records: &[Vec<u8>]) -> Vec<u8> {
     with_pairs(vec![kind, records.len() as u8], records)
 }
 
-pub fn graph(nodes: &[Node]) -> Vec<u8> {
-    let records: Vec<Vec<u8>> = nodes.iter().map(node).collect();
-    bundle(1, &records)
+pub fn graph(width: Width, nodes: &[Node]) -> Vec<u8> {
+    bundle(1, &graph_records(width, nodes))
 }
 
-pub fn list(closings: &[Closing]) -> Vec<u8> {
-    let records: Vec<Vec<u8>> = closings.iter().map(closing).collect();
-    bundle(2, &records)
+pub fn list(width: Width, closings: &[Closing]) -> Vec<u8> {
+    bundle(2, &list_records(width, closings))
 }
 
-pub fn node(node: &Node) -> Vec<u8> {
-    let mut bytes = node.label.0.to_be_bytes().to_vec();
+pub fn graph_records(width: Width, nodes: &[Node]) -> Vec<Vec<u8>> {
+    nodes.iter().map(|n| node(width, n)).collect()
+}
+
+pub fn list_records(width: Width, closings: &[Closing]) -> Vec<Vec<u8>> {
+    closings.iter().map(|c| closing(width, c)).collect()
+}
+
+fn node(width: Width, node: &Node) -> Vec<u8> {
+    let mut bytes = node.label.bytes(width);
     for edge in &node.edges {
         bytes.push(edge.target as u8);
         bytes.extend(edge.mask.to_be_bytes());
@@ -79,8 +86,8 @@ pub fn node(node: &Node) -> Vec<u8> {
     bytes
 }
 
-pub fn closing(closing: &Closing) -> Vec<u8> {
-    let mut bytes = closing.label.0.to_be_bytes().to_vec();
+pub fn closing(width: Width, closing: &Closing) -> Vec<u8> {
+    let mut bytes = closing.label.bytes(width);
     match &closing.step {
         Step::Clash(literal) => bytes.extend([1, *literal]),
         Step::Both { entry, cite } => bytes.extend([2, *entry, *cite]),

@@ -1,6 +1,6 @@
 //! Compares the checker's library with the papers' own implementation.
 //!
-//! Arguments: a seed (1 if not given), then a number of inputs (200,000 if not given); as many
+//! Arguments: a seed (1 if not given), then a number of inputs (300,000 if not given); as many
 //! claims follow them.
 
 mod claims;
@@ -23,7 +23,7 @@ fn main() -> ExitCode {
     let mut arguments = std::env::args().skip(1).map(|a| a.parse::<u64>());
     let (Ok(seed), Ok(inputs)) = (
         arguments.next().unwrap_or(Ok(1)),
-        arguments.next().unwrap_or(Ok(200_000)),
+        arguments.next().unwrap_or(Ok(300_000)),
     ) else {
         eprintln!("arguments: seed, number of inputs");
         return ExitCode::from(2);
@@ -45,6 +45,7 @@ fn main() -> ExitCode {
 /// the round before, which was made for another description. Gives its own evidence.
 fn round(r: &mut Random, c: &mut Comparison, before: &[u8]) -> Vec<u8> {
     let description = descriptions::random(r);
+    let width = description.width();
     let bytes = encode::description(&description);
     c.check(&bytes, before);
     let root = Label::of(&[description.root]);
@@ -58,12 +59,12 @@ fn round(r: &mut Random, c: &mut Comparison, before: &[u8]) -> Vec<u8> {
     // Lists that rest on an error about cells; most often the description is not empty.
     for known in [Known::Denied, Known::Reached, Known::Carried] {
         if let Some(closings) = refutations::search(r, &description, root, known, 1) {
-            c.check(&bytes, &encode::list(&closings));
+            c.check(&bytes, &encode::list(width, &closings));
         }
     }
     for _ in 0..3 {
         let line = lines::random(r, &description);
-        c.read(&bytes, &line.bytes());
+        c.read(&bytes, &line.bytes(width));
     }
     for _ in 0..6 {
         let spoiled = damage::description(r, &description);
@@ -72,7 +73,7 @@ fn round(r: &mut Random, c: &mut Comparison, before: &[u8]) -> Vec<u8> {
                 let room = r.below(200);
                 c.write(&spoiled, &evidence, room, r.byte());
             }
-            1 => c.read(&spoiled, &lines::random(r, &description).bytes()),
+            1 => c.read(&spoiled, &lines::random(r, &description).bytes(width)),
             _ => c.check(&spoiled, &evidence),
         }
     }
@@ -86,24 +87,12 @@ fn with_graph(
     bytes: &[u8],
     nodes: &[Node],
 ) -> Vec<u8> {
-    let evidence = encode::graph(nodes);
+    let width = description.width();
+    let evidence = encode::graph(width, nodes);
     c.check(bytes, &evidence);
     let elements = nodes.len() * copies(nodes);
     if elements <= MOST_ELEMENTS {
-        let full = length(elements);
-        let over = full + r.range(1, 40);
-        for room in [full - 1, full, over] {
-            c.write(bytes, &evidence, room, r.byte());
-        }
-        let mut line = Line::unfold(description, nodes);
-        line.close(description);
-        c.read(bytes, &line.bytes());
-        for _ in 0..3 {
-            let near = lines::near(r, description, &line);
-            c.read(bytes, &near.bytes());
-            let spoiled = lines::spoiled(r, description, &line);
-            c.read(bytes, &spoiled);
-        }
+        with_line(r, c, description, bytes, nodes);
     }
     for _ in 0..10 {
         let spoiled = spoil_graph::spoiled(r, description, nodes);
@@ -114,13 +103,41 @@ fn with_graph(
                 1,
                 50,
                 200,
-                length(MOST_ELEMENTS),
-                length(elements.min(64)),
+                length(width, MOST_ELEMENTS),
+                length(width, elements.min(64)),
             ]);
             c.write(bytes, &spoiled, room, r.byte());
         }
     }
     evidence
+}
+
+/// The line of a graph, written into buffers that hold it or not, then read with changes.
+fn with_line(
+    r: &mut Random,
+    c: &mut Comparison,
+    description: &Description,
+    bytes: &[u8],
+    nodes: &[Node],
+) {
+    let width = description.width();
+    let evidence = encode::graph(width, nodes);
+    let elements = nodes.len() * copies(nodes);
+    let full = length(width, elements);
+    let over = full + r.range(1, 40);
+    // The last is the room for a line with masks of the other width.
+    for room in [full - 1, full, over, length(width.other(), elements)] {
+        c.write(bytes, &evidence, room, r.byte());
+    }
+    let mut line = Line::unfold(description, nodes);
+    line.close(description);
+    c.read(bytes, &line.bytes(width));
+    for _ in 0..3 {
+        let near = lines::near(r, description, &line);
+        c.read(bytes, &near.bytes(width));
+        let spoiled = lines::spoiled(r, description, &line);
+        c.read(bytes, &spoiled);
+    }
 }
 
 fn with_list(
@@ -130,7 +147,7 @@ fn with_list(
     bytes: &[u8],
     closings: &[Closing],
 ) -> Vec<u8> {
-    let evidence = encode::list(closings);
+    let evidence = encode::list(description.width(), closings);
     c.check(bytes, &evidence);
     if r.one_in(4) {
         c.write(bytes, &evidence, 100, r.byte());
@@ -153,7 +170,7 @@ fn with_nothing(
         label: Label::of(&[0, description.root]).join(Label::of(&description.rules)),
         edges: Vec::new(),
     };
-    let evidence = encode::graph(&[node]);
+    let evidence = encode::graph(description.width(), &[node]);
     c.check(bytes, &evidence);
     c.check(bytes, &damage::bytes(r, &evidence));
     evidence

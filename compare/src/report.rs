@@ -2,15 +2,18 @@
 
 use crate::compare::{Comparison, Kind, KINDS, NUMBERS};
 use crate::library::WORDS;
+use compare::paper::label::{Width, WIDTHS};
 
 /// Each refusal must come as often, and each word, wherever it can come.
 const LEAST_REFUSALS: usize = 200;
 const LEAST_WORDS: usize = 1000;
 
-/// An answer, with how often inputs of each kind had it; nothing where they cannot have it.
+type Counts = [[Option<usize>; KINDS.len()]; WIDTHS.len()];
+
+/// An answer, with how often inputs of each width and kind had it; nothing where they cannot.
 struct Row {
     answer: String,
-    counts: [Option<usize>; KINDS.len()],
+    counts: Counts,
     least: usize,
 }
 
@@ -18,8 +21,12 @@ struct Row {
 pub fn report(c: &Comparison) -> bool {
     let rows: Vec<Row> = words(c).chain(refusals(c)).collect();
     let rare = rows.iter().any(Row::too_seldom);
-    let (plain, one, two) = ("plain", "one piece", "two pieces");
-    println!("{:16} {plain:>10} {one:>10} {two:>10}", "");
+    let kinds = ["plain", "one piece", "two pieces"].map(String::from);
+    print_row(
+        "entries",
+        &["up to 32", "", "", "from 33", "", ""].map(String::from),
+    );
+    print_row("", &[kinds.clone(), kinds].concat());
     for row in rows {
         row.print();
     }
@@ -33,7 +40,7 @@ pub fn report(c: &Comparison) -> bool {
 fn words(c: &Comparison) -> impl Iterator<Item = Row> + '_ {
     WORDS.iter().enumerate().map(|(word, name)| Row {
         answer: name.to_string(),
-        counts: KINDS.map(|kind| has_word(kind, name).then_some(c.tally(kind).words[word])),
+        counts: table(|kind, width| has_word(kind, name).then(|| c.tally(kind, width).words[word])),
         least: LEAST_WORDS,
     })
 }
@@ -41,10 +48,20 @@ fn words(c: &Comparison) -> impl Iterator<Item = Row> + '_ {
 fn refusals(c: &Comparison) -> impl Iterator<Item = Row> + '_ {
     (1..NUMBERS).map(|number| Row {
         answer: format!("refusal {number:2}"),
-        counts: KINDS
-            .map(|kind| has_refusal(kind, number).then_some(c.tally(kind).refusals[number])),
+        counts: table(|kind, width| {
+            has_refusal(kind, number).then(|| c.tally(kind, width).refusals[number])
+        }),
         least: LEAST_REFUSALS,
     })
+}
+
+fn table(count: impl Fn(Kind, Width) -> Option<usize>) -> Counts {
+    WIDTHS.map(|width| KINDS.map(|kind| count(kind, width)))
+}
+
+fn print_row(head: &str, fields: &[String]) {
+    let fields: String = fields.iter().map(|f| format!(" {f:>10}")).collect();
+    println!("{head:16}{fields}");
 }
 
 /// Can inputs of this kind have that word for an answer?
@@ -66,12 +83,13 @@ fn has_refusal(kind: Kind, number: usize) -> bool {
 
 impl Row {
     fn too_seldom(&self) -> bool {
-        self.counts.iter().flatten().any(|&n| n < self.least)
+        let counts = self.counts.iter().flatten();
+        counts.flatten().any(|&n| n < self.least)
     }
 
     fn print(&self) {
         let shown = |n: Option<usize>| n.map_or("-".into(), |n| n.to_string());
-        let [plain, one, two] = self.counts.map(shown);
-        println!("{:16} {plain:>10} {one:>10} {two:>10}", self.answer);
+        let counts: Vec<String> = self.counts.concat().into_iter().map(shown).collect();
+        print_row(&self.answer, &counts);
     }
 }

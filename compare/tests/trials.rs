@@ -1,11 +1,11 @@
-//! The paper's trial descriptions P1 to P10, and claims about that of P3 to P7, by the
-//! implementation alone.
+//! The paper's trial descriptions P1 to P10, claims about that of P3 to P7, and tables at both sides
+//! of 32 and of 64 entries, by the implementation alone.
 
 use compare::encode;
 use compare::paper::counting::OPEN;
 use compare::paper::description::{ancestors, Concept, Description, Role};
 use compare::paper::evidence::{Closing, Counting, Edge, Node, Step, Tree};
-use compare::paper::label::{Label, Literal};
+use compare::paper::label::{Label, Literal, Width};
 use compare::paper::{check, claim, read, write, Answer, Refusal};
 
 const P1: [u8; 22] = [
@@ -64,20 +64,23 @@ fn fillers(label: &[Literal], count: u16) -> Vec<u8> {
         mask: 1,
         count,
     };
-    encode::graph(&[
-        Node {
-            label: Label::of(label),
-            edges: vec![edge],
-        },
-        Node {
-            label: Label::of(&[0]),
-            edges: Vec::new(),
-        },
-    ])
+    encode::graph(
+        Width::Narrow,
+        &[
+            Node {
+                label: Label::of(label),
+                edges: vec![edge],
+            },
+            Node {
+                label: Label::of(&[0]),
+                edges: Vec::new(),
+            },
+        ],
+    )
 }
 
 fn closing(leaf: [u8; 2]) -> Vec<u8> {
-    encode::list(&closings(leaf))
+    encode::list(Width::Narrow, &closings(leaf))
 }
 
 fn closings(leaf: [u8; 2]) -> [Closing; 3] {
@@ -101,10 +104,13 @@ fn p1_p2_p10() {
     assert_eq!(check(&P1, &[]), refused(9, 0));
     let mut p2 = P1;
     p2[21] = 1;
-    let list = encode::list(&[Closing {
-        label: Label::of(&[1]),
-        step: Step::Clash(1),
-    }]);
+    let list = encode::list(
+        Width::Narrow,
+        &[Closing {
+            label: Label::of(&[1]),
+            step: Step::Clash(1),
+        }],
+    );
     assert_eq!(check(&p2, &list), Answer::Empty);
 }
 
@@ -150,7 +156,7 @@ fn p8_p9() {
 
 /// Nothing has at least 3 fillers and not at least 2.
 fn three_are_two(leaf: [u8; 2]) -> Vec<u8> {
-    encode::list(&closings(leaf)[..2])
+    encode::list(Width::Narrow, &closings(leaf)[..2])
 }
 
 #[test]
@@ -172,7 +178,10 @@ fn claims_answered() {
             label: Label::of(&[0, 4, 5]),
             step: Step::Clash(5),
         };
-        assert_eq!(judge(4, 4, &encode::list(&[clash]), &three), Answer::Holds);
+        assert_eq!(
+            judge(4, 4, &encode::list(Width::Narrow, &[clash]), &three),
+            Answer::Holds
+        );
         assert_eq!(judge(4, 5, &three, &[]), Answer::Fails);
     }
 }
@@ -219,4 +228,120 @@ fn claims_refused_in_order() {
     assert_eq!(judge(4, 2, &three_are_two([1, 0]), &cut), refused(19, 1));
     assert_eq!(judge(4, 3, &list, &cut), refused(20, 1));
     assert_eq!(judge(4, 2, &list, &cut), refused(10, 1));
+}
+
+/// Top and names, so many entries in all.
+fn named(entries: usize, root: Literal) -> Vec<u8> {
+    let mut concepts = vec![Concept::Name; entries];
+    concepts[0] = Concept::Top;
+    described(vec![role(false, 0)], concepts, root)
+}
+
+/// A graph of one node without edges.
+fn single(width: Width, label: &[Literal]) -> Vec<u8> {
+    let label = Label::of(label);
+    let edges = Vec::new();
+    encode::graph(width, &[Node { label, edges }])
+}
+
+#[test]
+fn widths_of_graphs() {
+    for entries in [1, 31, 32, 33, 34, 63, 64] {
+        let last = 2 * entries as Literal - 2;
+        let description = named(entries, last);
+        let width = match entries {
+            ..=32 => Width::Narrow,
+            _ => Width::Wide,
+        };
+        let right = single(width, &[0, last]);
+        assert_eq!(check(&description, &right), Answer::Inhabited);
+        assert_eq!(
+            claim(&description, last, last + 1, &right, &[]),
+            Answer::Fails
+        );
+        let other = single(width.other(), &[0, last]);
+        assert_eq!(check(&description, &other), refused(10, 0));
+        assert_eq!(
+            claim(&description, last, last + 1, &other, &[]),
+            refused(10, 0)
+        );
+        // The first literal past the table, where a label has a bit for it.
+        if last + 2 < 8 * width.label() as Literal {
+            let past = single(width, &[0, last, last + 2]);
+            assert_eq!(check(&description, &past), refused(11, 0));
+        }
+        assert_eq!(check(&named(entries, last + 2), &right), refused(8, 0));
+        assert_eq!(
+            claim(&description, 0, last + 2, &right, &[]),
+            refused(24, 0)
+        );
+    }
+    assert_eq!(
+        check(&named(65, 0), &single(Width::Wide, &[0])),
+        refused(2, 0)
+    );
+}
+
+#[test]
+fn widths_of_lines() {
+    // The name entries 31, 32 and 63, the last ones of their tables.
+    let masks: [(usize, &[u8]); 3] = [
+        (32, &[0x80, 0, 0, 0]),
+        (33, &[0, 0, 0, 1, 0, 0, 0, 0]),
+        (64, &[0x80, 0, 0, 0, 0, 0, 0, 0]),
+    ];
+    for (entries, mask) in masks {
+        let last = 2 * entries as Literal - 2;
+        let description = named(entries, last);
+        let graph = single(Width::of_table(entries), &[0, last]);
+        let line = [&[1], mask, &[0, 0]].concat();
+        let mut buffer = vec![0xEE; line.len()];
+        let answer = write(&description, &graph, &mut buffer[1..]);
+        assert_eq!((answer, buffer[1]), (refused(22, 0), 0xEE));
+        let answer = write(&description, &graph, &mut buffer);
+        assert_eq!((answer, &buffer), (Answer::Written, &line));
+        assert_eq!(read(&description, &line), Answer::Holds);
+        assert_eq!(read(&named(entries, last + 1), &line), Answer::Fails);
+        // One entry less, and the bit is for none; a byte less, and the masks are too short.
+        assert_eq!(read(&named(entries - 1, 0), &line), refused(23, 0));
+        assert_eq!(read(&description, &line[..line.len() - 1]), refused(23, 0));
+    }
+}
+
+#[test]
+fn widths_of_lists() {
+    let mut concepts = vec![Concept::Name; 64];
+    concepts[0] = Concept::Top;
+    concepts[63] = Concept::Both(124, 125);
+    let description = described(vec![role(false, 0)], concepts, 126);
+    let records = [
+        (Label::of(&[124, 125]), Step::Clash(124)),
+        (Label::of(&[126]), Step::Both { entry: 63, cite: 0 }),
+    ];
+    let closings = records.map(|(label, step)| Closing { label, step });
+    let list = |width| encode::list(width, &closings);
+    assert_eq!(check(&description, &list(Width::Wide)), Answer::Empty);
+    assert_eq!(check(&description, &list(Width::Narrow)), refused(10, 0));
+}
+
+/// A counting step with an 8-byte label has a form with a 16-byte label, too, and is judged by it:
+/// its bytes from 06 on are the literals below 64 then, and its multipliers are a clash.
+#[test]
+fn lists_with_both_forms() {
+    let list = |front: u8, l: u8| {
+        let cells = [0xFF, 0xFF, 0xFF];
+        let record = [
+            &[front, 0, 0, 0, 0, 0, 0, 0, 6, 2, 2, 4],
+            &cells[..],
+            &[0, 1, l],
+        ]
+        .concat();
+        encode::bundle(2, &[record])
+    };
+    let description = named(33, 0);
+    assert_eq!(check(&description, &list(0, 24)), refused(20, 0));
+    assert_eq!(check(&description, &list(0, 0)), refused(17, 0));
+    assert_eq!(check(&description, &list(0, 66)), refused(16, 0));
+    assert_eq!(check(&description, &list(0x80, 24)), refused(16, 0));
+    assert_eq!(check(&named(32, 0), &list(0, 24)), refused(17, 0));
 }

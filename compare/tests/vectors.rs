@@ -1,14 +1,36 @@
 //! The implementation alone on the repository's vectors: those from outside, the trials and the costliest.
 
 use compare::paper::{self, Answer, Refusal};
-use std::path::Path;
+use std::path::{Path, PathBuf};
 
-/// The rows of the files of `crates/evidence_vectors/data`; a line that begins with '#' is a remark.
-fn rows(files: &[&str], fields: usize) -> Vec<Vec<String>> {
+/// The first words of the names of files.
+const WORDS: [&str; 4] = ["check", "claims", "write", "read"];
+
+/// The files of `crates/evidence_vectors/data` whose names begin with a word; none has another.
+fn files(word: &str) -> Vec<PathBuf> {
     let folder = Path::new(env!("CARGO_MANIFEST_DIR")).join("../crates/evidence_vectors/data");
+    let mut files = Vec::new();
+    for file in std::fs::read_dir(folder).expect("the folder of vectors") {
+        let path = file.expect("a file").path();
+        let name = path.file_name().and_then(|name| name.to_str());
+        let first = name
+            .and_then(|name| name.split('_').next())
+            .expect("a name");
+        assert!(WORDS.contains(&first), "{} is for no test", path.display());
+        if first == word {
+            files.push(path);
+        }
+    }
+    files.sort();
+    files
+}
+
+/// The rows of these files; a line that begins with '#' is a remark.
+fn rows(word: &str, fields: usize) -> Vec<Vec<String>> {
     let mut rows = Vec::new();
-    for file in files {
-        let text = std::fs::read_to_string(folder.join(file)).expect(file);
+    for path in files(word) {
+        let file = path.display();
+        let text = std::fs::read_to_string(&path).expect("a text");
         let before = rows.len();
         for line in text.lines().filter(|line| !line.starts_with('#')) {
             let row: Vec<String> = line.split('\t').map(String::from).collect();
@@ -17,6 +39,7 @@ fn rows(files: &[&str], fields: usize) -> Vec<Vec<String>> {
         }
         assert!(before < rows.len(), "{file} has no rows");
     }
+    assert!(!rows.is_empty(), "no rows for {word}");
     rows
 }
 
@@ -34,15 +57,7 @@ fn refused(refusal: Refusal) -> String {
 
 #[test]
 fn weigh() {
-    let files = [
-        "check",
-        "check_trials",
-        "check_worst",
-        "check_lists",
-        "check_lists_trials",
-        "check_lists_worst",
-    ];
-    for row in rows(&files, 2) {
+    for row in rows("check", 2) {
         let input = bytes(&row[0]);
         // A two-byte length, the description, then evidence; missing bytes leave either short.
         let (length, rest) = match input[..] {
@@ -62,7 +77,7 @@ fn weigh() {
 
 #[test]
 fn claims() {
-    for row in rows(&["claims", "claims_trials", "claims_worst"], 6) {
+    for row in rows("claims", 6) {
         let literal = |field: &String| field.parse().expect("a literal");
         let (c, d) = (literal(&row[1]), literal(&row[2]));
         let answer = match paper::claim(&bytes(&row[0]), c, d, &bytes(&row[3]), &bytes(&row[4])) {
@@ -78,7 +93,7 @@ fn claims() {
 
 #[test]
 fn write() {
-    for row in rows(&["write", "write_trials", "write_worst"], 4) {
+    for row in rows("write", 4) {
         let room: usize = row[2].parse().expect("a length");
         let pattern: Vec<u8> = (0..room).map(|i| (i * 7 + 3) as u8).collect();
         let mut buffer = pattern.clone();
@@ -100,7 +115,7 @@ fn write() {
 
 #[test]
 fn read() {
-    for row in rows(&["read", "read_trials", "read_worst"], 3) {
+    for row in rows("read", 3) {
         let answer = match paper::read(&bytes(&row[0]), &bytes(&row[1])) {
             Answer::Holds => "HOLDS".into(),
             Answer::Fails => "FAILS".into(),

@@ -5,7 +5,7 @@ use crate::make::refutations::Known;
 use crate::make::{graphs, refutations};
 use crate::paper::description::{Concept, Description};
 use crate::paper::evidence::{Closing, Node};
-use crate::paper::label::{opposite, Label, Literal};
+use crate::paper::label::{opposite, Label, Literal, Width};
 use crate::random::Random;
 
 /// A piece of evidence.
@@ -16,10 +16,10 @@ pub enum Piece {
 }
 
 impl Piece {
-    pub fn bytes(&self) -> Vec<u8> {
+    pub fn bytes(&self, width: Width) -> Vec<u8> {
         match self {
-            Piece::Graph(nodes) => encode::graph(nodes),
-            Piece::List(closings) => encode::list(closings),
+            Piece::Graph(nodes) => encode::graph(width, nodes),
+            Piece::List(closings) => encode::list(width, closings),
         }
     }
 }
@@ -34,11 +34,13 @@ pub struct Claim {
 
 /// A claim with its evidence, if small searches find some.
 pub fn search(r: &mut Random, description: &Description) -> Option<Claim> {
-    let (c, d) = match r.below(9) {
+    let (c, d) = match r.below(11) {
         0..=3 => first_empty(r, description)?,
         4 => parts(r, description)?,
         5..=6 => counts(r, description)?,
         7 => special(r, description),
+        // Often there is no line with the root.
+        8..=9 => (description.root, literal(r, description)),
         _ => (literal(r, description), literal(r, description)),
     };
     decide(r, description, c, d)

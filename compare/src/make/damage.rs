@@ -1,11 +1,13 @@
 //! Damage to bytes of any kind, and to the parts of a description.
 
 use crate::encode;
-use crate::paper::description::{Concept, Description};
+use crate::paper::description::{Concept, Description, MOST_ENTRIES, MOST_ROLES, MOST_RULES};
 use crate::random::Random;
 
 /// Bytes at a limit of the paper, or next to one.
-const EDGES: [u8; 16] = [0, 1, 2, 3, 6, 7, 8, 9, 31, 32, 63, 64, 65, 253, 254, 255];
+const EDGES: [u8; 20] = [
+    0, 1, 2, 3, 6, 7, 8, 9, 31, 32, 33, 63, 64, 65, 127, 128, 129, 253, 254, 255,
+];
 
 /// One byte, one bit, a cut, a lengthening, two bytes exchanged.
 pub fn bytes(r: &mut Random, bytes: &[u8]) -> Vec<u8> {
@@ -70,17 +72,18 @@ pub fn description(r: &mut Random, whole: &Description) -> Vec<u8> {
         _ => {}
     }
     let mut parts = encode::description_parts(whole);
-    match r.below(10) {
+    match r.below(12) {
         0 => sizes(r, &mut parts),
         1..=2 => role(r, &mut parts[0], whole.roles.len()),
         3..=4 => entry(r, &mut parts[1], whole),
         5 => twin(r, &mut parts[1], whole),
-        6..=7 => return missing_every(r, whole),
-        8 => {
+        6..=8 => return missing_every(r, whole),
+        9 => {
             // Most often this makes a counted role not simple, or asks for an "every".
             let at = 3 * r.below(whole.roles.len());
             parts[0][at] ^= 1;
         }
+        10 => table(r, &mut parts[1]),
         _ => question(r, &mut parts[2], whole.concepts.len()),
     }
     encode::join_parts(&parts)
@@ -90,7 +93,6 @@ pub fn description(r: &mut Random, whole: &Description) -> Vec<u8> {
 fn sizes(r: &mut Random, parts: &mut [Vec<u8>; 3]) {
     let which = r.below(3);
     let part = &mut parts[which];
-    let name = [1, 0, 0, 0, 0, 0];
     match r.below(6) {
         0 => part.clear(),
         1 => part.push(0),
@@ -100,15 +102,27 @@ fn sizes(r: &mut Random, parts: &mut [Vec<u8>; 3]) {
         more => {
             let extra = more - 3;
             match which {
-                0 => part.resize(3 * (15 + extra), 0),
-                1 => {
-                    while part.len() < 6 * (31 + extra) {
-                        part.extend(name);
-                    }
-                }
-                _ => part.resize(16 + extra, 0),
+                0 => part.resize(3 * (MOST_ROLES - 1 + extra), 0),
+                1 => entries(part, MOST_ENTRIES - 1 + extra),
+                _ => part.resize(MOST_RULES + extra, 0),
             }
         }
+    }
+}
+
+/// Another number of entries, next to where the width of labels changes or to the limit. The
+/// evidence stays as it is, and so do the entries that are left.
+fn table(r: &mut Random, part: &mut Vec<u8>) {
+    let old = part.len() / 6;
+    let near = r.pick(&[old - 1, old + 1]);
+    entries(part, r.pick(&[near, 31, 32, 33, 63, MOST_ENTRIES, 65]));
+}
+
+/// So many entries: names are put behind the old ones, or the last ones are dropped.
+fn entries(part: &mut Vec<u8>, count: usize) {
+    part.truncate(6 * count);
+    while part.len() < 6 * count {
+        part.extend([1, 0, 0, 0, 0, 0]);
     }
 }
 
@@ -161,10 +175,10 @@ fn twin(r: &mut Random, part: &mut Vec<u8>, whole: &Description) {
         .find(kept)
         .unwrap_or(start);
     let fields = part[6 * e..6 * e + 6].to_vec();
-    if entries < 32 {
+    if entries < MOST_ENTRIES {
         part.extend(fields);
     } else {
-        part.splice(6 * 31.., fields);
+        part.splice(6 * (entries - 1).., fields);
     }
 }
 
@@ -193,7 +207,7 @@ fn missing_every(r: &mut Random, whole: &Description) -> Vec<u8> {
 
 fn question(r: &mut Random, part: &mut Vec<u8>, entries: usize) {
     let end = 2 * entries as u8;
-    let literal = r.pick(&[end - 1, end, end, end + 1, 63, 64, 65, 255]);
+    let literal = r.pick(&[end - 1, end, end, end + 1, 63, 64, 65, 127, 128, 255]);
     if r.one_in(2) {
         let at = r.below(part.len());
         part[at] = literal;

@@ -1,7 +1,9 @@
 //! Random accepted descriptions.
 
 use crate::encode;
-use crate::paper::description::{ancestors, Concept, Description, Role};
+use crate::paper::description::{
+    ancestors, Concept, Description, Role, MOST_ENTRIES, MOST_ROLES, MOST_RULES,
+};
 use crate::paper::label::{opposite, Literal};
 use crate::random::Random;
 
@@ -14,6 +16,7 @@ pub fn random(r: &mut Random) -> Description {
             1..=2 => maker.loose(),
             _ => maker.counted(),
         }
+        maker.fill();
         let description = maker.description;
         if Description::read(&encode::description(&description)).is_ok() {
             return description;
@@ -21,20 +24,59 @@ pub fn random(r: &mut Random) -> Description {
     }
 }
 
+/// So many entries are enough for most roots with all that they speak of.
+const ENOUGH: usize = 25;
+
+/// How many entries there are.
+struct Size {
+    least: usize,
+    most: usize,
+    /// As many roles and rules as may be, too.
+    largest: bool,
+}
+
+impl Size {
+    /// More than 32 entries in a third of the descriptions; often a number next to a limit.
+    fn random(r: &mut Random) -> Size {
+        let largest = r.one_in(100);
+        let any = r.range(33, MOST_ENTRIES);
+        let (least, most) = match r.below(30) {
+            _ if largest => (MOST_ENTRIES, MOST_ENTRIES),
+            0..=2 => (33, 33),
+            3..=5 => (MOST_ENTRIES, MOST_ENTRIES),
+            6..=9 => (any, any),
+            10..=11 => (32, 32),
+            12 => (31, 31),
+            _ => (1, r.range(8, 32)),
+        };
+        Size {
+            least,
+            most,
+            largest,
+        }
+    }
+}
+
 struct Maker<'a> {
     r: &'a mut Random,
     description: Description,
-    /// No more entries than these.
-    most: usize,
+    size: Size,
+    /// So many fillers are still to come before or between the entries that matter.
+    ahead: usize,
     /// Numbers near 255 and 1,000 instead of small ones.
     big: bool,
 }
 
 impl Maker<'_> {
     fn new(r: &mut Random) -> Maker<'_> {
-        let roles = random_roles(r);
-        let most = if r.one_in(10) { 32 } else { r.range(8, 32) };
-        Maker {
+        let size = Size::random(r);
+        let roles = random_roles(r, size.largest);
+        // None, some or all of the entries that are left over come first: with all of 64, the
+        // literals that matter are mostly above 63.
+        let spare = size.least.saturating_sub(ENOUGH);
+        let some = r.below(spare + 1);
+        let ahead = r.pick(&[0, some, spare, spare]);
+        let mut maker = Maker {
             description: Description {
                 ancestors: ancestors(&roles),
                 roles,
@@ -42,20 +84,80 @@ impl Maker<'_> {
                 root: 0,
                 rules: Vec::new(),
             },
-            most,
+            size,
+            ahead: 0,
             big: r.one_in(10),
             r,
+        };
+        if maker.r.one_in(2) {
+            maker.fill_to(1 + ahead);
+        } else {
+            maker.ahead = ahead;
+        }
+        maker
+    }
+
+    /// An entry that nothing need speak of, mostly a name.
+    fn filler(&mut self) {
+        let (a, b, role) = (self.literal(), self.literal(), self.role());
+        let made = match self.r.below(8) {
+            0 => self.both(a, b),
+            1 => self.at_least(1, role, a),
+            2 => self.every(role, a),
+            _ => None,
+        };
+        if made.is_none() {
+            self.entry(Concept::Name);
+        }
+    }
+
+    fn fill_to(&mut self, entries: usize) {
+        while self.description.concepts.len() < entries {
+            self.filler();
+        }
+    }
+
+    /// Some of the fillers that are to come.
+    fn fillers_between(&mut self) {
+        while self.ahead > 0 && self.r.one_in(2) {
+            // No filler before a filler, which may be more entries than one.
+            let ahead = std::mem::take(&mut self.ahead);
+            let before = self.description.concepts.len();
+            self.filler();
+            let added = self.description.concepts.len() - before;
+            self.ahead = ahead.saturating_sub(added.max(1));
+        }
+    }
+
+    /// Fillers behind all entries, and rules that are true of everything or stand there already.
+    fn fill(&mut self) {
+        self.ahead = 0;
+        self.fill_to(self.size.least);
+        if self.r.one_in(10) {
+            // Nothing but the question can speak of the last entry.
+            let last = 2 * (self.description.concepts.len() - 1) as Literal;
+            let last = self.either(last);
+            match self.r.below(3) {
+                0 if self.description.rules.len() < MOST_RULES => self.description.rules.push(last),
+                _ => self.description.root = last,
+            }
+        }
+        while self.size.largest && self.description.rules.len() < MOST_RULES {
+            let old = self.description.rules.first().copied();
+            let rule = self.r.pick(&[0, old.unwrap_or(0)]);
+            self.description.rules.push(rule);
         }
     }
 
     /// The literal of an entry, an old one if there is such an entry (test 6).
     fn entry(&mut self, concept: Concept) -> Option<Literal> {
+        self.fillers_between();
         let concepts = &mut self.description.concepts;
         let named = concept == Concept::Name;
         if let (false, Some(e)) = (named, concepts.iter().position(|c| *c == concept)) {
             return Some(2 * e as Literal);
         }
-        if concepts.len() >= self.most {
+        if concepts.len() >= self.size.most {
             return None;
         }
         concepts.push(concept);
@@ -65,7 +167,7 @@ impl Maker<'_> {
     /// "Every R l", and before it the "every T l" that test 7 asks for.
     fn every(&mut self, role: usize, literal: Literal) -> Option<Literal> {
         let below = self.description.transitive_below(role);
-        if self.description.concepts.len() + below.len() + 1 > self.most {
+        if self.description.concepts.len() + below.len() + 1 > self.size.most {
             return None;
         }
         for t in below {
@@ -185,7 +287,7 @@ impl Maker<'_> {
 
     /// Entries of any kind, with a root and rules of any kind.
     fn loose(&mut self) {
-        while self.description.concepts.len() < self.most {
+        while self.description.concepts.len() < self.size.most {
             let (a, b, role) = (self.literal(), self.literal(), self.role());
             let number = self.some_number();
             let made = match self.r.below(5) {
@@ -199,7 +301,7 @@ impl Maker<'_> {
             }
         }
         let rules = if self.r.one_in(20) {
-            16
+            MOST_RULES
         } else {
             self.r.below(4)
         };
@@ -213,7 +315,7 @@ impl Maker<'_> {
     /// So many of A, of B and of C where each filler has exactly two of them: whole numbers
     /// may fail where halves do not.
     fn exactly_two_of_three(&mut self) {
-        self.most = 32;
+        self.size.most = self.size.most.max(32);
         if self.two_of_three().is_none() {
             self.loose();
         }
@@ -256,9 +358,10 @@ impl Maker<'_> {
     }
 }
 
-fn random_roles(r: &mut Random) -> Vec<Role> {
+fn random_roles(r: &mut Random, largest: bool) -> Vec<Role> {
     let count = match r.below(20) {
-        0 => 16,
+        _ if largest => MOST_ROLES,
+        0 => MOST_ROLES,
         1 => r.range(5, 15),
         _ => r.pick(&[1, 1, 2, 2, 3, 4]),
     };

@@ -19,7 +19,7 @@ pub fn random(r: &mut Random, description: &Description) -> Line {
     let dense = r.range(2, 6);
     for x in 0..d {
         for e in names(description) {
-            line.names[x] |= (r.below(2) as u32) << e;
+            line.names[x] |= (r.below(2) as u64) << e;
         }
         for y in 0..d {
             if r.one_in(dense) {
@@ -60,17 +60,18 @@ pub fn near(r: &mut Random, description: &Description, line: &Line) -> Line {
 
 /// Bytes that are a line or nearly one.
 pub fn spoiled(r: &mut Random, description: &Description, line: &Line) -> Vec<u8> {
-    let mut bytes = line.bytes();
+    let width = description.width();
+    let mut bytes = line.bytes(width);
     let d = line.names.len();
-    match r.below(8) {
+    match r.below(9) {
         // A bit for no name, or for an entry past the table.
         0 => {
-            let at = 1 + 4 * r.below(d);
-            bytes[at + r.below(4)] ^= 1 << r.below(8);
+            let at = 1 + r.below(width.names() * d);
+            bytes[at] ^= 1 << r.below(8);
         }
         // A bit past the last role.
         1 => {
-            let at = 1 + 4 * d + 2 * r.below(d * d);
+            let at = 1 + width.names() * d + 2 * r.below(d * d);
             let bit = r.range(description.roles.len().min(15), 15);
             let mask = 1u16 << bit;
             bytes[at] |= mask.to_be_bytes()[0];
@@ -80,11 +81,13 @@ pub fn spoiled(r: &mut Random, description: &Description, line: &Line) -> Vec<u8
         // No elements, one too many, or as many as there may be; all with the right length.
         3 => {
             let d = r.pick(&[0, 1, 2, 64, 65]);
-            bytes = vec![0; length(d)];
+            bytes = vec![0; length(width, d)];
             bytes[0] = d as u8;
         }
         4 => bytes.truncate(r.below(bytes.len())),
-        5 => bytes.extend(vec![0; r.range(1, 4)]),
+        // Masks of the other width, of which a wide one may lose names.
+        5 => bytes = line.bytes(width.other()),
+        6 => bytes.extend(vec![0; r.range(1, 4)]),
         _ => bytes = damage::bytes(r, &bytes),
     }
     bytes

@@ -12,3 +12,4 @@ pub mod spoil_graph;
 pub mod spoil_list;
 pub mod swell;
 pub mod trees;
+pub mod widths;

@@ -120,7 +120,7 @@ impl Search<'_> {
     /// Step 1.
     fn clash(&mut self, label: Label) -> Option<Cite> {
         let held = label.with(0);
-        let l = (0..32)
+        let l = (0..64)
             .map(|e| 2 * e)
             .find(|&l| held.has(l) && held.has(l + 1))?;
         let needed = Label::of(&[l, l + 1]);

@@ -19,12 +19,13 @@ pub struct Given {
 
 impl Given {
     pub fn of(description: &Description, claim: &Claim) -> Given {
+        let bytes = |piece: &Piece| piece.bytes(description.width());
         Given {
             description: encode::description(description),
             c: claim.c,
             d: claim.d,
-            first: claim.first.bytes(),
-            second: claim.second.as_ref().map_or(Vec::new(), Piece::bytes),
+            first: bytes(&claim.first),
+            second: claim.second.as_ref().map_or(Vec::new(), bytes),
         }
     }
 }

@@ -1,30 +1,32 @@
 //! Graphs with one thing changed; some changes leave a graph that keeps the rules.
 
 use crate::encode;
-use crate::make::damage;
+use crate::make::{damage, widths};
 use crate::paper::description::Description;
-use crate::paper::evidence::{Edge, Node, MOST_EDGES};
-use crate::paper::label::{Label, Literal};
+use crate::paper::evidence::{Edge, Node, MOST_EDGES, MOST_RECORDS};
+use crate::paper::label::{Label, Literal, Width};
 use crate::random::Random;
 
 pub fn spoiled(r: &mut Random, description: &Description, nodes: &[Node]) -> Vec<u8> {
-    let bytes = encode::graph(nodes);
-    match r.below(14) {
+    let width = description.width();
+    let bytes = encode::graph(width, nodes);
+    match r.below(15) {
         0 => damage::bytes(r, &bytes),
         1 => damage::pairs(r, &bytes, 2, nodes.len()),
         2 => head(r, &bytes),
-        3 => form(r, nodes),
+        3 => form(r, width, nodes),
         4 => {
             let mut nodes = nodes.to_vec();
             for _ in 0..2 {
                 change(r, description, &mut nodes);
             }
-            encode::graph(&nodes)
+            encode::graph(width, &nodes)
         }
+        5 => widths::graph(r, width, nodes),
         _ => {
             let mut nodes = nodes.to_vec();
             change(r, description, &mut nodes);
-            encode::graph(&nodes)
+            encode::graph(width, &nodes)
         }
     }
 }
@@ -42,24 +44,28 @@ pub fn head(r: &mut Random, bytes: &[u8]) -> Vec<u8> {
 }
 
 /// A record too short or too long, with pairs that agree.
-fn form(r: &mut Random, nodes: &[Node]) -> Vec<u8> {
-    let mut records: Vec<Vec<u8>> = nodes.iter().map(encode::node).collect();
+fn form(r: &mut Random, width: Width, nodes: &[Node]) -> Vec<u8> {
+    let label = width.label();
+    let mut records = encode::graph_records(width, nodes);
     let i = r.below(records.len());
     match r.below(5) {
         // The end of the last record may lie past 65,535.
         0 if i + 1 == nodes.len() && r.one_in(4) => {
-            records[i].resize(r.pick(&[173, 60_003, 65_533, 65_535]), 1)
+            let edges = r.pick(&[33, 11_999, (65_535 - label) / 5]);
+            let whole = label + 5 * edges;
+            records[i].resize(r.pick(&[whole, whole, whole, 65_535]), 1)
         }
-        0 => records[i].truncate(r.below(9)),
+        0 => records[i].truncate(r.below(label + 1)),
         1 => records[i].push(0),
         2 => {
             records[i].pop();
         }
         _ => {
             // 32 or 33 edges.
-            let edge = records[i].get(8..13).unwrap_or(&[0, 0, 1, 0, 1]).to_vec();
+            let first = records[i].get(label..label + 5);
+            let edge = first.unwrap_or(&[0, 0, 1, 0, 1]).to_vec();
             let edges = r.range(32, 33);
-            while records[i].len() < 8 + 5 * edges {
+            while records[i].len() < label + 5 * edges {
                 records[i].extend(&edge);
             }
         }
@@ -70,6 +76,7 @@ fn form(r: &mut Random, nodes: &[Node]) -> Vec<u8> {
 fn change(r: &mut Random, description: &Description, nodes: &mut Vec<Node>) {
     let i = r.below(nodes.len());
     match r.below(10) {
+        0 if r.one_in(20) => largest(nodes),
         0..=2 => label(r, description, &mut nodes[i]),
         3..=5 => edge(r, description, nodes),
         6 => {
@@ -103,7 +110,7 @@ fn label(r: &mut Random, description: &Description, node: &mut Node) {
     match r.below(6) {
         // A literal that is there is dropped.
         0..=1 => {
-            let held: Vec<Literal> = (0..64).filter(|&l| node.label.has(l)).collect();
+            let held = node.label.literals();
             if !held.is_empty() {
                 node.label = node.label.without(r.pick(&held));
             }
@@ -117,7 +124,10 @@ fn label(r: &mut Random, description: &Description, node: &mut Node) {
             node.label = Label(node.label.0 & !(3 << (2 * e)) | turned << (2 * e));
         }
         4 => node.label = Label(node.label.0 ^ 1 << r.below(literals)),
-        _ => node.label = Label(node.label.0 ^ 1 << r.below(64)),
+        _ => {
+            let bits = 8 * description.width().label();
+            node.label = Label(node.label.0 ^ 1 << r.below(bits));
+        }
     }
 }
 
@@ -146,6 +156,17 @@ fn edge(r: &mut Random, description: &Description, nodes: &mut [Node]) {
         5 => edge.count = r.pick(&[0, 1, 255, 256, 1000, 1001, 65535]),
         6 => edge.count = edge.count.saturating_add(1),
         _ => edge.count = edge.count.saturating_sub(1),
+    }
+}
+
+/// As many records and edges as may be. Where nothing limits the fillers it still keeps the rules.
+fn largest(nodes: &mut Vec<Node>) {
+    let last = nodes[nodes.len() - 1].clone();
+    nodes.resize(MOST_RECORDS, last);
+    for edges in nodes.iter_mut().map(|node| &mut node.edges) {
+        if let Some(last) = edges.last().cloned() {
+            edges.resize(MOST_EDGES, last);
+        }
     }
 }
 

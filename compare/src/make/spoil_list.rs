@@ -4,32 +4,35 @@ use crate::encode;
 use crate::make::damage;
 use crate::make::refutations::cites_of;
 use crate::make::spoil_graph::head;
-use crate::make::swell;
+use crate::make::{swell, widths};
 use crate::paper::counting::{open_cells, OPEN};
 use crate::paper::description::Description;
 use crate::paper::evidence::{Closing, Counting, Step, Tree};
-use crate::paper::label::{Label, Literal};
+use crate::paper::label::{Label, Literal, Width};
 use crate::random::Random;
 
 pub fn spoiled(r: &mut Random, description: &Description, closings: &[Closing]) -> Vec<u8> {
-    let bytes = encode::list(closings);
-    match r.below(14) {
+    let width = description.width();
+    let bytes = encode::list(width, closings);
+    match r.below(15) {
         0 => damage::bytes(r, &bytes),
         1 => damage::pairs(r, &bytes, 2, closings.len()),
         2 => head(r, &bytes),
-        3 => form(r, closings),
-        4 if r.one_in(10) => swell::past_16_bits(r, closings).unwrap_or(bytes),
+        3 => form(r, width, closings),
+        4 if r.one_in(10) => swell::past_16_bits(r, width, closings).unwrap_or(bytes),
+        5 => widths::list(r, description, closings),
         _ => {
             let mut closings = closings.to_vec();
             change(r, description, &mut closings);
-            encode::list(&closings)
+            encode::list(width, &closings)
         }
     }
 }
 
 /// A record too short or too long, an unknown step, another k; the pairs agree.
-fn form(r: &mut Random, closings: &[Closing]) -> Vec<u8> {
-    let mut records: Vec<Vec<u8>> = closings.iter().map(encode::closing).collect();
+fn form(r: &mut Random, width: Width, closings: &[Closing]) -> Vec<u8> {
+    let label = width.label();
+    let mut records = encode::list_records(width, closings);
     let i = r.below(records.len());
     let record = &mut records[i];
     match r.below(6) {
@@ -40,8 +43,8 @@ fn form(r: &mut Random, closings: &[Closing]) -> Vec<u8> {
         2 => {
             record.pop();
         }
-        3 => record[8] = r.pick(&[0, 1, 2, 3, 4, 5, 6, 7, 255]),
-        4 => record[9] = r.pick(&[0, 1, 2, 5, 6, 7, 255]),
+        3 => record[label] = r.pick(&[0, 1, 2, 3, 4, 5, 6, 7, 255]),
+        4 => record[label + 1] = r.pick(&[0, 1, 2, 5, 6, 7, 255]),
         _ => {
             let at = r.below(record.len());
             record[at] = r.pick(&[0, 1, 2, 255]);
@@ -56,7 +59,7 @@ fn change(r: &mut Random, description: &Description, closings: &mut Vec<Closing>
     let steps: Vec<usize> = (0..closings.len())
         .filter(|&i| counting(&closings[i]))
         .collect();
-    if !steps.is_empty() && r.one_in(2) {
+    if !steps.is_empty() && !r.one_in(3) {
         let i = r.pick(&steps);
         if r.one_in(30) {
             closings[i] = swell::full_closing(&closings[i], 8).unwrap_or(closings[i].clone());
@@ -99,10 +102,11 @@ fn change(r: &mut Random, description: &Description, closings: &mut Vec<Closing>
 }
 
 fn label(r: &mut Random, description: &Description, closing: &mut Closing) {
-    let held: Vec<Literal> = (0..64).filter(|&l| closing.label.has(l)).collect();
+    let held = closing.label.literals();
+    let bits = 8 * description.width().label();
     match r.below(5) {
         0..=2 if !held.is_empty() => closing.label = closing.label.without(r.pick(&held)),
-        3 => closing.label = Label(closing.label.0 ^ 1 << r.below(64)),
+        3 => closing.label = Label(closing.label.0 ^ 1 << r.below(bits)),
         _ => {
             let l = r.below(2 * description.concepts.len());
             closing.label = Label(closing.label.0 ^ 1 << l);
@@ -153,7 +157,7 @@ fn subject(r: &mut Random, description: &Description, step: &mut Step) {
 
 fn count(r: &mut Random, description: &Description, step: &mut Counting, own: usize) {
     let k = step.rows.len();
-    match r.below(13) {
+    match r.below(14) {
         0 => {
             // Rows that do not rise, or are others.
             let (a, b) = (r.below(k), r.below(k));
@@ -163,16 +167,21 @@ fn count(r: &mut Random, description: &Description, step: &mut Counting, own: us
             let l = r.below(2 * description.concepts.len() + 1);
             step.rows[r.below(k)] = l as Literal;
         }
-        2..=5 => {
+        2..=6 => {
             // A cell opened, shut, or shut by another record.
             let c = r.below(step.cells.len());
             let other = r.below(own.max(1)) as u8;
-            step.cells[c] = r.pick(&[OPEN, OPEN, other, other, other, own as u8, 254]);
+            step.cells[c] = match r.below(9) {
+                0..=1 => OPEN,
+                2 => own as u8,
+                3 => 254,
+                _ => other,
+            };
         }
-        6 => more_rows(r, step),
-        7..=8 => deepen(r, step),
-        9 => scale(&mut step.tree, r.pick(&[2, 3, 64, 127, 255])),
-        10 => split_value(r, step),
+        7 => more_rows(r, step),
+        8..=9 => deepen(r, step),
+        10 => scale(&mut step.tree, r.pick(&[2, 3, 64, 127, 255])),
+        11 => split_value(r, step),
         _ => multiplier(r, &mut step.tree),
     }
 }

@@ -3,31 +3,35 @@
 use crate::encode;
 use crate::paper::counting::open_cells;
 use crate::paper::evidence::{Closing, Counting, Step, Tree, MOST_RECORDS};
-use crate::paper::label::Label;
+use crate::paper::label::{Label, Width};
 use crate::random::Random;
 
 /// A list that still closes and whose last record reaches past 65,535, or just not, or that
 /// no pairs can name. Full copies of a counting step come before the last record.
-pub fn past_16_bits(r: &mut Random, closings: &[Closing]) -> Option<Vec<u8>> {
+pub fn past_16_bits(r: &mut Random, width: Width, closings: &[Closing]) -> Option<Vec<u8>> {
     let (last, before) = closings.split_last()?;
     let first = before
         .iter()
         .find(|c| matches!(c.step, Step::Counting(_)))?;
-    let mut records: Vec<Vec<u8>> = before.iter().map(encode::closing).collect();
-    let end = encode::closing(last);
+    let mut records = encode::list_records(width, before);
+    let mut end = encode::closing(width, last);
+    if r.one_in(8) {
+        // Too long to have a form; as evidence it may be as long as any.
+        end.resize(65_535, 1);
+    }
     let head = 2 + 4 * MOST_RECORDS;
     let used: usize = records.iter().map(Vec::len).sum();
     // Where the last record is to begin: its end passes 65,535, or its offset does.
     let goal = r.range(65_500, 65_580);
     let mut left = usize::checked_sub(goal, head + used)?;
-    // The other records are filled up with clashes of 10 bytes.
+    // The other records are filled up with clashes of two bytes behind the label.
     let clash = Closing {
         label: Label::of(&[0, 1]),
         step: Step::Clash(1),
     };
-    let clash = encode::closing(&clash);
+    let clash = encode::closing(width, &clash);
     for depth in (0..=8).rev() {
-        let full = encode::closing(&full_closing(first, depth)?);
+        let full = encode::closing(width, &full_closing(first, depth)?);
         while records.len() < MOST_RECORDS - 1 {
             let clashes = (MOST_RECORDS - 2 - records.len()) * clash.len();
             if left < full.len() + clashes {

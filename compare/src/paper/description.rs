@@ -1,7 +1,7 @@
 //! The description and its tests, 1 to 8.
 
 use super::bytes::{number, parts};
-use super::label::Literal;
+use super::label::{Literal, Width};
 use super::Refusal;
 
 #[derive(Clone, PartialEq, Eq, Debug)]
@@ -37,6 +37,10 @@ pub struct Description {
     pub ancestors: Vec<u16>,
 }
 
+pub const MOST_ROLES: usize = 16;
+pub const MOST_ENTRIES: usize = 64;
+pub const MOST_RULES: usize = 16;
+
 /// A test of a whole description.
 type Test = fn(&Description) -> bool;
 
@@ -48,8 +52,10 @@ impl Description {
         let (roles, concepts, question) = (found[0], found[1], found[2]);
 
         // 2: length no multiple, or outside limits.
-        let sized = records_in(roles, 3, 16) && records_in(concepts, 6, 32);
-        if !sized || !records_in(question, 1, 17) {
+        let sized = records_in(roles, 3, MOST_ROLES)
+            && records_in(concepts, 6, MOST_ENTRIES)
+            && records_in(question, 1, 1 + MOST_RULES);
+        if !sized {
             return Err(Refusal::whole(2));
         }
 
@@ -80,6 +86,11 @@ impl Description {
             }
         }
         Ok(())
+    }
+
+    /// The width of labels in its evidence and of name masks in its lines.
+    pub fn width(&self) -> Width {
+        Width::of_table(self.concepts.len())
     }
 
     /// Is `ancestor` the role itself or reached from it through parents?

@@ -1,7 +1,7 @@
 //! The head of evidence (9) and the form of its records (10).
 
 use super::bytes::{number, parts};
-use super::label::{Label, Literal};
+use super::label::{Label, Literal, Width};
 use super::Refusal;
 
 /// The records of a graph or of a closing list, each still in bytes.
@@ -94,20 +94,20 @@ fn head_of(evidence: &[u8]) -> Option<Head<'_>> {
 }
 
 /// 10, over all records of a graph, rising.
-pub fn nodes(records: &[&[u8]]) -> Result<Vec<Node>, Refusal> {
-    let node = |(i, bytes)| node(bytes).ok_or(Refusal::at(10, i));
+pub fn nodes(records: &[&[u8]], width: Width) -> Result<Vec<Node>, Refusal> {
+    let node = |(i, bytes)| node(bytes, width).ok_or(Refusal::at(10, i));
     records.iter().copied().enumerate().map(node).collect()
 }
 
 /// 10, over all records of a list, rising.
-pub fn closings(records: &[&[u8]]) -> Result<Vec<Closing>, Refusal> {
-    let closing = |(i, bytes)| closing(bytes).ok_or(Refusal::at(10, i));
+pub fn closings(records: &[&[u8]], width: Width) -> Result<Vec<Closing>, Refusal> {
+    let closing = |(i, bytes)| closing(bytes, width).ok_or(Refusal::at(10, i));
     records.iter().copied().enumerate().map(closing).collect()
 }
 
 /// A label and 0 to 32 edges of 5 bytes.
-fn node(bytes: &[u8]) -> Option<Node> {
-    let edges = bytes.get(8..)?;
+fn node(bytes: &[u8], width: Width) -> Option<Node> {
+    let (label, edges) = bytes.split_at_checked(width.label())?;
     if edges.len() % 5 != 0 || edges.len() / 5 > MOST_EDGES {
         return None;
     }
@@ -117,15 +117,15 @@ fn node(bytes: &[u8]) -> Option<Node> {
         count: number(b, 3),
     };
     Some(Node {
-        label: Label::read(bytes),
+        label: Label::read(label),
         edges: edges.chunks(5).map(edge).collect(),
     })
 }
 
 /// A label, a step byte and the data of that step, with no byte left over.
-fn closing(bytes: &[u8]) -> Option<Closing> {
-    let step = *bytes.get(8)?;
-    let data = &bytes[9..];
+fn closing(bytes: &[u8], width: Width) -> Option<Closing> {
+    let (label, rest) = bytes.split_at_checked(width.label())?;
+    let (&step, data) = rest.split_first()?;
     let step = match (step, data) {
         (1, &[literal]) => Step::Clash(literal),
         (2, &[entry, cite]) => Step::Both { entry, cite },
@@ -142,7 +142,7 @@ fn closing(bytes: &[u8]) -> Option<Closing> {
         _ => return None,
     };
     Some(Closing {
-        label: Label::read(bytes),
+        label: Label::read(label),
         step,
     })
 }

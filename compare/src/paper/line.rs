@@ -3,7 +3,7 @@
 use super::bytes::number;
 use super::description::{Concept, Description};
 use super::evidence::Node;
-use super::label::Literal;
+use super::label::{Literal, Width};
 use super::Refusal;
 
 pub const MOST_ELEMENTS: usize = 64;
@@ -12,14 +12,14 @@ pub const MOST_ELEMENTS: usize = 64;
 #[derive(Clone, PartialEq, Eq, Debug)]
 pub struct Line {
     /// For each element the mask of its name entries.
-    pub names: Vec<u32>,
+    pub names: Vec<u64>,
     /// `pairs[x][y]`: the mask of the roles from x to y.
     pub pairs: Vec<Vec<u16>>,
 }
 
 /// The length of a line of d elements.
-pub fn length(d: usize) -> usize {
-    1 + 4 * d + 2 * d * d
+pub fn length(width: Width, d: usize) -> usize {
+    1 + width.names() * d + 2 * d * d
 }
 
 /// K: the greatest total of counts from one node to one node, at least 1.
@@ -40,12 +40,12 @@ pub fn write(description: &Description, nodes: &[Node], room: usize) -> Result<V
     if d > MOST_ELEMENTS {
         return Err(Refusal::whole(21));
     }
-    if room < length(d) {
+    if room < length(description.width(), d) {
         return Err(Refusal::whole(22));
     }
     let mut line = Line::unfold(description, nodes);
     line.close(description);
-    Ok(line.bytes())
+    Ok(line.bytes(description.width()))
 }
 
 impl Line {
@@ -104,10 +104,10 @@ impl Line {
     }
 
     /// d, the name masks, then the rows of role masks; high bytes first.
-    pub fn bytes(&self) -> Vec<u8> {
+    pub fn bytes(&self, width: Width) -> Vec<u8> {
         let mut bytes = vec![self.names.len() as u8];
         for mask in &self.names {
-            bytes.extend(mask.to_be_bytes());
+            bytes.extend(&mask.to_be_bytes()[8 - width.names()..]);
         }
         for mask in self.pairs.iter().flatten() {
             bytes.extend(mask.to_be_bytes());
@@ -121,15 +121,16 @@ impl Line {
     }
 
     fn of_bytes(description: &Description, bytes: &[u8]) -> Option<Line> {
+        let width = description.width();
         let d = *bytes.first()? as usize;
-        if !(1..=MOST_ELEMENTS).contains(&d) || bytes.len() != length(d) {
+        if !(1..=MOST_ELEMENTS).contains(&d) || bytes.len() != length(width, d) {
             return None;
         }
-        let (names, pairs) = bytes[1..].split_at(4 * d);
-        let name = |b: &[u8]| u32::from_be_bytes([b[0], b[1], b[2], b[3]]);
+        let (names, pairs) = bytes[1..].split_at(width.names() * d);
+        let name = |b: &[u8]| b.iter().fold(0, |mask, &byte| mask << 8 | byte as u64);
         let row = |b: &[u8]| b.chunks(2).map(|mask| number(mask, 0)).collect();
         let line = Line {
-            names: names.chunks(4).map(name).collect(),
+            names: names.chunks(width.names()).map(name).collect(),
             pairs: pairs.chunks(2 * d).map(row).collect(),
         };
         line.bits_ok(description).then_some(line)
@@ -139,7 +140,7 @@ impl Line {
     fn bits_ok(&self, description: &Description) -> bool {
         let is_name = |e: usize| description.concepts.get(e) == Some(&Concept::Name);
         let is_role = |r: usize| r < description.roles.len();
-        let bits_name = |mask: u32| (0..32).all(|e| mask >> e & 1 == 0 || is_name(e));
+        let bits_name = |mask: u64| (0..64).all(|e| mask >> e & 1 == 0 || is_name(e));
         let bits_role = |mask: u16| (0..16).all(|r| mask >> r & 1 == 0 || is_role(r));
         self.names.iter().all(|&mask| bits_name(mask))
             && self.pairs.iter().flatten().all(|&mask| bits_role(mask))
@@ -202,7 +203,7 @@ impl Line {
 }
 
 /// Bit e: name entry e is in the node's label.
-fn names(description: &Description, node: &Node) -> u32 {
+fn names(description: &Description, node: &Node) -> u64 {
     let entries = description.concepts.iter().enumerate();
     let held = entries.filter(|(e, c)| **c == Concept::Name && node.label.has(2 * *e as Literal));
     held.fold(0, |mask, (e, _)| mask | 1 << e)

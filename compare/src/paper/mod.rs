@@ -66,9 +66,16 @@ fn verdict(description: &[u8], evidence: &[u8]) -> Result<Answer, Refusal> {
 
 /// 10 to 20: a graph shows a line that has the literals wanted, a list that there is none.
 fn weigh(description: &Description, wanted: Label, evidence: &Head) -> Result<(), Refusal> {
+    let width = description.width();
     match evidence {
-        Head::Graph(records) => graph::weigh(description, wanted, &evidence::nodes(records)?),
-        Head::List(records) => list::weigh(description, wanted, &evidence::closings(records)?),
+        Head::Graph(records) => {
+            let nodes = evidence::nodes(records, width)?;
+            graph::weigh(description, wanted, &nodes)
+        }
+        Head::List(records) => {
+            let closings = evidence::closings(records, width)?;
+            list::weigh(description, wanted, &closings)
+        }
     }
 }
 
@@ -94,7 +101,7 @@ fn line_of(description: &[u8], evidence: &[u8], room: usize) -> Result<Vec<u8>, 
         // 9: a list given to the line writer.
         return Err(Refusal::whole(9));
     };
-    let nodes = evidence::nodes(&records)?;
+    let nodes = evidence::nodes(&records, description.width())?;
     graph::weigh(&description, Label::of(&[description.root]), &nodes)?;
     line::write(&description, &nodes, room)
 }

@@ -16,7 +16,7 @@ use Rattle.description.specs.Literals.{Literal, pos, neg, literal, code, code-l
 use Rattle.description.specs.Descriptions.{Description}
 use Rattle.refutation.specs.Records.{Step}
 use Rattle.refutation.specs.RecordTests.{citeTest, stepTest}
-use Rattle.labels.specs.Labels.{labelWith}
+use Rattle.labels.specs.Labels.{mostEntries, mostLiterals, labelWith}
 use Rattle.cites.specs.declared.Cite.{Cite}
 use Rattle.cites.specs.declared.Cite.the-variants.{Earlier, Bad}
 
@@ -72,23 +72,23 @@ is-bad i j x e q = go (ltb j i) (sym q ∙ e)
     go true h = absurd (let z : _≡_ {A = ℕ} 0 1 = cc in omega arith)
     go false h = refl
 
--- a label of 64 bits asks nothing of the literals past them
-module _ (M : ℕ) (few : M < 2 ^ 64) where
-  same-within : (A B : ℕ) → ((i : ℕ) → i < 64 → (So (has A i) → So (has B i)) × (So (has B i) → So (has A i))) → within M A ≡ within M B
+-- a label asks nothing of the literals past its room
+module _ (M : ℕ) (few : M < 2 ^ mostLiterals) where
+  same-within : (A B : ℕ) → ((i : ℕ) → i < mostLiterals → (So (has A i) → So (has B i)) × (So (has B i) → So (has A i))) → within M A ≡ within M B
   same-within A B e = same-test _ _
-      (λ h. within↔ M B .1 (λ i u. e i (has-lt 64 M i few u) .0 (within↔ M A .0 h i u)))
-      (λ h. within↔ M A .1 (λ i u. e i (has-lt 64 M i few u) .1 (within↔ M B .0 h i u)))
+      (λ h. within↔ M B .1 (λ i u. e i (has-lt mostLiterals M i few u) .0 (within↔ M A .0 h i u)))
+      (λ h. within↔ M A .1 (λ i u. e i (has-lt mostLiterals M i few u) .1 (within↔ M B .0 h i u)))
 
   -- the label with a literal put in, as the code has it
-  with-room : (A B l i : ℕ) → i < 64 → (So (has A i) → So (has B i)) × (So (has B i) → So (has A i))
+  with-room : (A B l i : ℕ) → i < mostLiterals → (So (has A i) → So (has B i)) × (So (has B i) → So (has A i))
       → (So (has (labelWith A l) i) → So (has (with B l) i)) × (So (has (with B l) i) → So (has (labelWith A l) i))
   unfolding labelWith
-  with-room A B l i h e = elim (decLt l 64) [
-    | yes g ↦ rw (lt-ltb l 64 g) (
+  with-room A B l i h e = elim (decLt l mostLiterals) [
+    | yes g ↦ rw (lt-ltb l mostLiterals g) (
       λ u. with↔ B l i .1 (elim (with↔ A l i .0 u) [ inl v ↦ inl (e .0 v) | inr v ↦ inr v ]),
       λ u. with↔ A l i .1 (elim (with↔ B l i .0 u) [ inl v ↦ inl (e .1 v) | inr v ↦ inr v ]),
     )
-    | no g ↦ rw (le-ltb l 64 (let z : 64 ≤ l = omega arith in z)) (
+    | no g ↦ rw (le-ltb l mostLiterals (let z : mostLiterals ≤ l = omega arith in z)) (
       λ u. with↔ B l i .1 (inl (e .0 u)),
       λ u. elim (with↔ B l i .0 u) [ inl v ↦ e .1 v | inr v ↦ absurd (omega arith) ],
     )
@@ -103,12 +103,12 @@ module _ (M : ℕ) (few : M < 2 ^ 64) where
   two-put K N P Q a b k p q = rw (q, p, ← k, code-literal a, code-literal b)
       (same-within (labelWith (labelWith N a) b) (with (with N a) b) (λ i h. with-room (labelWith N a) (with N a) b i h (with-room N N a i h (λ u. u, λ u. u))))
 
-  pub none-put : (K N e : ℕ) (denied : Bool) → M ≡ K → 128 ≤ e → within M N ≡ within K (adding N (ofEntry e denied))
+  pub none-put : (K N e : ℕ) (denied : Bool) → M ≡ K → mostEntries ≤ e → within M N ≡ within K (adding N (ofEntry e denied))
   unfolding adding
   none-put K N e denied k h = rw (← k) (same-within N (with N (code (ofEntry e denied))) (λ i g.
       (λ u. with↔ N (code (ofEntry e denied)) i .1 (inl u), λ u. elim (with↔ N (code (ofEntry e denied)) i .0 u) [ inl v ↦ v | inr v ↦ absurd (past denied i g v) ])))
     where
-      past : (denied : Bool) (i : ℕ) → i < 64 → i ≡ code (ofEntry e denied) → ⊥
+      past : (denied : Bool) (i : ℕ) → i < mostLiterals → i ≡ code (ofEntry e denied) → ⊥
       past true i g v = omega arith
       past false i g v = omega arith
 

@@ -8,8 +8,10 @@ ghost use Rattle.description.specs.Literals.{literal, adding};
 ghost use Rattle.labels.specs.Labels.{valueOf};
 ghost use Rattle.evidence.specs.Evidence.{labelOf};
 ghost use Rattle.cites.specs.Cites.{citeOf, citeRefusal, ofEntry};
+use evidence::Layout;
 use evidence::record_label;
 use labels::Label;
+use labels::MOST_ENTRIES;
 use labels::lies_within;
 use labels::put;
 use tables::EntryNo;
@@ -28,28 +30,28 @@ pub fn look_up(i: u8, j: u8) -> Cite
 }
 
 // Whether the label of record `c` lies within `x` with `a` put in.
-pub fn within_one(s: &[u8], c: u8, x: Label, a: u8) -> bool
-    ensures { λ r. ⌜ r ≡ within (labelOf (now (s .entry)) c) (adding (valueOf x) (literal a)) ⌝ }
+pub fn within_one(s: &[u8], c: u8, x: Label, a: u8, f: Layout) -> bool
+    ensures { λ r. ⌜ r ≡ within (labelOf f (now (s .entry)) c) (adding (valueOf x) (literal a)) ⌝ }
 {
-    lies_within(record_label(s, c), put(x, a))
+    lies_within(record_label(s, c, f), put(x, a))
 }
 
 // The same with two literals put in.
-pub fn within_two(s: &[u8], c: u8, x: Label, a: u8, b: u8) -> bool
-    ensures { λ r. ⌜ r ≡ within (labelOf (now (s .entry)) c) (adding (adding (valueOf x) (literal a)) (literal b)) ⌝ }
+pub fn within_two(s: &[u8], c: u8, x: Label, a: u8, b: u8, f: Layout) -> bool
+    ensures { λ r. ⌜ r ≡ within (labelOf f (now (s .entry)) c) (adding (adding (valueOf x) (literal a)) (literal b)) ⌝ }
 {
-    lies_within(record_label(s, c), put(put(x, a), b))
+    lies_within(record_label(s, c, f), put(put(x, a), b))
 }
 
-// The same with entry `e` put in, or with its complement.
-pub fn within_case(s: &[u8], c: u8, x: Label, e: EntryNo, denied: bool) -> bool
-    ensures { λ r. ⌜ r ≡ within (labelOf (now (s .entry)) c) (adding (valueOf x) (ofEntry (e .0) denied)) ⌝ }
+// The same with entry `e` put in, or with its complement; no table has an entry past the most, and no label its literals.
+pub fn within_case(s: &[u8], c: u8, x: Label, e: EntryNo, denied: bool, f: Layout) -> bool
+    ensures { λ r. ⌜ r ≡ within (labelOf f (now (s .entry)) c) (adding (valueOf x) (ofEntry (e .0) denied)) ⌝ }
 {
-    if 128 <= e.0 {
-        return lies_within(record_label(s, c), x);
+    if MOST_ENTRIES <= e.0 {
+        return lies_within(record_label(s, c, f), x);
     }
     if denied {
-        return within_one(s, c, x, 2 * e.0 + 1);
+        return within_one(s, c, x, 2 * e.0 + 1, f);
     }
-    within_one(s, c, x, 2 * e.0)
+    within_one(s, c, x, 2 * e.0, f)
 }

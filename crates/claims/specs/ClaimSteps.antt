@@ -13,7 +13,7 @@ use Rattle.logic.specs.Refusals.{Refusal, unless, unless↔, refuse, refuse-the
 use Rattle.description.specs.Literals.{Literal, pos, neg, literal, opposite, code, entryOf, adding, literalSet, code-literal, literal-code, entryOf-opposite}
 use Rattle.description.specs.Acceptance.{literalTest}
 use Rattle.tables.specs.Tables.{describe}
-use Rattle.labels.specs.Labels.{labelWith}
+use Rattle.labels.specs.Labels.{mostEntries, labelWith}
 use Rattle.roles.specs.Ancestors.{AncestorsOf}
 use Rattle.intake.specs.Intake.{directoryTest, rolesPart, conceptsPart, queryPart, partsTest, parts-accepted, bytesTest}
 use Rattle.intake.specs.Steps.{tablesTest, tables-are}
@@ -158,7 +158,7 @@ module _ (rs cs qs a : List ℕ) (c d : ℕ) (s t : List ℕ) (anc : AncestorsOf
     literals-are = rw (half c, half d) refl
 
     module _ (c-in : entryOf (literal c) < length cs / 6) (d-in : entryOf (literal d) < length cs / 6) where
-      few : length cs / 6 ≤ 32
+      few : length cs / 6 ≤ mostEntries
       few = parts-accepted rs cs qs fine .1
 
       -- C put into a set, and the two sets that are wanted

@@ -1,12 +1,16 @@
 // Copies of nodes: how many there are of each, and the edge that takes one.
 ghost use mathlib.Core.Path.{_≡_};
 ghost use Prim.Native.Nat.{_*_, _≤_, _<_, max};
-ghost use lib.Dec.{eqb};
+ghost use lib.ListN.{length};
 ghost use Rattle.logic.specs.Sums.{only, maxBelow};
-ghost use Rattle.copies.specs.Copying.{totalTo, copiesIn, ownerMask};
-use edges::edge_at;
+ghost use Rattle.edges.specs.EdgeSteps.{edgeCount};
+ghost use Rattle.copies.specs.Copying.{takenAt, sumTo, totalTo, copiesIn, ownerMask};
 use edges::edge_count;
+use evidence::Layout;
 use evidence::record_edges;
+use parts::byte;
+use parts::mask2;
+use parts::read2;
 
 // The greater of two numbers.
 fn greater(a: usize, b: usize) -> usize
@@ -15,11 +19,17 @@ fn greater(a: usize, b: usize) -> usize
     if a < b { b } else { a }
 }
 
-// The count of an edge, if it leads to `y`.
-fn count_to(target: u8, count: usize, y: u8) -> usize
-    ensures { λ r. ⌜ (r ≡ only (eqb target y) count) × (r ≤ count) ⌝ }
+// The copies of `y` that the edge at `at` takes: its count, if it leads to `y`. Of all others the target alone is read.
+fn taken_at(es: &[u8], at: u32, y: u8) -> usize
+    requires { ⌜ at < length (now es) ⌝ }
+    ensures { λ r. ⌜ (r ≡ takenAt (now (es .entry)) y at) × (r ≤ 65535) ⌝ }
 {
-    if target == y { count } else { 0 }
+    let from = at as usize;
+    if es[from] == y {
+        read2(es, from + 3)
+    } else {
+        0
+    }
 }
 
 // The greater of `most` and `sum`, if that is asked.
@@ -33,41 +43,46 @@ fn greater_if(most: u32, sum: u32, asked: bool) -> u32
     }
 }
 
-// A count as a word.
-fn word_of(n: usize) -> u32
-    requires { ⌜ n < 65536 ⌝ }
-    ensures { λ r. ⌜ r ≡ n ⌝ }
+// What the counts of the first `k` edges to `y` add up to.
+fn sum_to(es: &[u8], k: u8, y: u8) -> u32
+    requires { ⌜ k ≤ edgeCount (now es) ⌝ }
+    ensures { λ r. ⌜ (r ≡ sumTo (now (es .entry)) k y) × (r ≤ 65535 * k) ⌝ }
 {
-    (n % 65536) as u32
+    let mut sum: u32 = 0;
+    let mut at: u32 = 0;
+    let mut i: u8 = 0;
+    while i < k {
+        sum += taken_at(es, at, y) as u32;
+        at += 5;
+        i += 1;
+    }
+    sum
 }
 
-// The greatest total of the edges to one of `n` records, the totals to all targets added up in one pass.
+// The greatest total of the edges to one of `n` records. Up to each edge they are added up anew: an array of totals is a kilobyte of stack.
 fn most_to(es: &[u8], n: u8) -> usize
     ensures { λ r. ⌜ (r ≡ maxBelow n (totalTo (now (es .entry)))) × (r ≤ 32 * 65535) ⌝ }
 {
     let k = edge_count(es);
-    let mut totals: [u32; 256] = [0; 256];
     let mut most: u32 = 0;
     let mut j: u8 = 0;
     while j < k {
-        let e = edge_at(es, j);
-        let y = e.target as usize;
-        let sum = totals[y] + word_of(e.count);
-        totals[y] = sum;
-        most = greater_if(most, sum, e.target < n);
+        let y = byte(es, 5 * (j as usize));
         j += 1;
+        let sum = sum_to(es, j, y);
+        most = greater_if(most, sum, y < n);
     }
     most as usize
 }
 
 // K: the most that the counts of the edges from one of the `n` records to another add up to; 1 if there is no edge.
-pub fn most_copies(s: &[u8], n: u8) -> usize
-    ensures { λ r. ⌜ (r ≡ copiesIn (now (s .entry)) n) × (r ≤ 32 * 65535) ⌝ }
+pub fn most_copies(s: &[u8], n: u8, f: Layout) -> usize
+    ensures { λ r. ⌜ (r ≡ copiesIn f (now (s .entry)) n) × (r ≤ 32 * 65535) ⌝ }
 {
     let mut most: usize = 1;
     let mut x: u8 = 0;
     while x < n {
-        let es = record_edges(s, x);
+        let es = record_edges(s, x, f);
         most = greater(most, most_to(es, n));
         x += 1;
     }
@@ -80,14 +95,15 @@ pub fn owner_mask(es: &[u8], y: u8, j: usize) -> u16
 {
     let k = edge_count(es);
     let mut left = j;
+    let mut at: u32 = 0;
     let mut i: u8 = 0;
     while i < k {
-        let e = edge_at(es, i);
-        let taken = count_to(e.target, e.count, y);
+        let taken = taken_at(es, at, y);
         if left < taken {
-            return e.mask;
+            return mask2(es, (at as usize) + 1);
         }
         left -= taken;
+        at += 5;
         i += 1;
     }
     0

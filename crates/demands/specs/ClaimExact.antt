@@ -25,12 +25,12 @@ use Rattle.refutation.specs.Records.{Refutation, Closes}
 use Rattle.refutation.specs.Sound.{refutation-sound}
 use Rattle.completeness.specs.Dichotomy.{dichotomy, exclusive}
 use Rattle.intake.specs.Intake.{described, AcceptedBytes, accepted-bytes↔}
-use Rattle.evidence.specs.Evidence.{recordCount, graphIn, HeadOk, head↔, headOf, head-graph, head-refutation}
+use Rattle.demands.specs.Exact.{graphOf, refutationOf}
+use Rattle.evidence.specs.Evidence.{recordCount, HeadOk, head↔, headOf, head-graph, head-refutation}
 use Rattle.evidence.specs.declared.Head.{Head}
 use Rattle.evidence.specs.declared.Head as Heads
 use Rattle.evidence.specs.declared.Head.the-variants.{GraphOf, RefutationOf}
 use Rattle.graph_check.specs.GraphEvidence.{GraphKept, kept↔}
-use Rattle.lists.specs.Lists.{refutationIn}
 use Rattle.lists.specs.ListEvidence.{ListKept, list-kept↔}
 use Rattle.answers.specs.declared.Judgement.{Judgement}
 use Rattle.answers.specs.declared.Judgement.the-variants.{Holds, Fails, HoldsOfNothing}
@@ -169,21 +169,21 @@ module _ (x : List ℕ) (c d : ℕ) (s t : List ℕ) where
   -- after HOLDS no finite model of any size has an element with C and not D, and the line of the graph is one that has C
   pub holds-true : claimAnswer x c d s t ≡ answer HOLDS none → let D = described x in
       ((I : Interpretation) → Model D I → Satisfies D (counterexample c d) I → ⊥)
-      × (Model D (line D (graphIn t)) × Satisfies D (subject c) (line D (graphIn t)))
+      × (Model D (line D (graphOf x t)) × Satisfies D (subject c) (line D (graphOf x t)))
   holds-true q = let k = holds↔ .0 q in let D = described x in (
-    refutation-sound D (k .0 .accepted) (counterexample c d) (refutationIn s) (k .1 .1 .0 .closes),
-    graph-sound D (k .0 .accepted) (subject c) (graphIn t) (k .1 .1 .1 .keeps),
+    refutation-sound D (k .0 .accepted) (counterexample c d) (refutationOf x s) (k .1 .1 .0 .closes),
+    graph-sound D (k .0 .accepted) (subject c) (graphOf x t) (k .1 .1 .1 .keeps),
   )
 
   -- after FAILS the line of the graph has an element with C and not D
   pub fails-true : claimAnswer x c d s t ≡ answer FAILS none
-      → let D = described x in Model D (line D (graphIn s)) × Satisfies D (counterexample c d) (line D (graphIn s))
-  fails-true q = let k = fails↔ .0 q in graph-sound (described x) (k .0 .accepted) (counterexample c d) (graphIn s) (k .1 .1 .0 .keeps)
+      → let D = described x in Model D (line D (graphOf x s)) × Satisfies D (counterexample c d) (line D (graphOf x s))
+  fails-true q = let k = fails↔ .0 q in graph-sound (described x) (k .0 .accepted) (counterexample c d) (graphOf x s) (k .1 .1 .0 .keeps)
 
   -- after HOLDS OF NOTHING no finite model of any size has C
   pub nothing-true : claimAnswer x c d s t ≡ answer HOLDS-OF-NOTHING none
       → (I : Interpretation) → Model (described x) I → Satisfies (described x) (subject c) I → ⊥
-  nothing-true q = let k = nothing↔ .0 q in refutation-sound (described x) (k .0 .accepted) (subject c) (refutationIn s) (k .1 .1 .0 .closes)
+  nothing-true q = let k = nothing↔ .0 q in refutation-sound (described x) (k .0 .accepted) (subject c) (refutationOf x s) (k .1 .1 .0 .closes)
 
 -- ---- exactly one of the three
 -- lifted evidence for each answer
@@ -238,12 +238,12 @@ module _ (D : Description) (A : Accepted D) (c d : ℕ) (i : ClaimIn D c d) wher
 -- so no claim has two answers, whatever the evidence
 module _ (x : List ℕ) (c d : ℕ) (s t u v : List ℕ) where
   pub never-holds-and-fails : claimAnswer x c d s t ≡ answer HOLDS none → claimAnswer x c d u v ≡ answer FAILS none → ⊥
-  never-holds-and-fails p q = let f = fails-true x c d u v q in holds-true x c d s t p .0 (line (described x) (graphIn u)) (f .0) (f .1)
+  never-holds-and-fails p q = let f = fails-true x c d u v q in holds-true x c d s t p .0 (line (described x) (graphOf x u)) (f .0) (f .1)
 
   pub never-holds-and-nothing : claimAnswer x c d s t ≡ answer HOLDS none → claimAnswer x c d u v ≡ answer HOLDS-OF-NOTHING none → ⊥
   never-holds-and-nothing p q = let h = holds-true x c d s t p in
-      nothing-true x c d u v q (line (described x) (graphIn t)) (h .1 .0) (h .1 .1)
+      nothing-true x c d u v q (line (described x) (graphOf x t)) (h .1 .0) (h .1 .1)
 
   pub never-fails-and-nothing : claimAnswer x c d s t ≡ answer FAILS none → claimAnswer x c d u v ≡ answer HOLDS-OF-NOTHING none → ⊥
-  never-fails-and-nothing p q = let f = fails-true x c d s t p in let I = line (described x) (graphIn s) in
+  never-fails-and-nothing p q = let f = fails-true x c d s t p in let I = line (described x) (graphOf x s) in
       nothing-true x c d u v q I (f .0) (has-subject (described x) c d I (f .1))

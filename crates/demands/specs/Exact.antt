@@ -11,13 +11,15 @@ use Rattle.logic.specs.Refusals.{refuse↔}
 use Rattle.description.specs.Descriptions.{Description, wanted}
 use Rattle.interpretation.specs.Meaning.{Interpretation}
 use Rattle.interpretation.specs.Models.{Model, Satisfies}
+use Rattle.graph.specs.Graphs.{Graph}
 use Rattle.graph.specs.Line.{copies, line}
 use Rattle.graph.specs.Sound.{graph-sound}
+use Rattle.refutation.specs.Records.{Refutation}
 use Rattle.refutation.specs.Sound.{refutation-sound}
 use Rattle.intake.specs.Intake.{described, AcceptedBytes, accepted-bytes↔}
-use Rattle.evidence.specs.Evidence.{graphIn}
+use Rattle.evidence.specs.Evidence.{layoutOf, graphIn}
 use Rattle.graph_check.specs.GraphEvidence.{GraphKept, kept↔}
-use Rattle.lines.specs.Lines.{lineLength, mostElements}
+use Rattle.lines.specs.Lines.{nameSize, lineLength, mostElements}
 use Rattle.line_writer.specs.Writing.{writeAnswer, written↔}
 use Rattle.lists.specs.Lists.{refutationIn}
 use Rattle.lists.specs.ListEvidence.{ListKept, list-kept↔}
@@ -48,6 +50,13 @@ shows-list s = go (isList s)
     go true e = refl
     go false e = absurd (let z : _≡_ {A = ℕ} 0 1 = cc in omega arith)
 
+-- ---- what the bytes of evidence are, stored as for the description
+abbrev pub graphOf : List ℕ → List ℕ → Graph
+graphOf d s = graphIn (layoutOf (described d)) s
+
+abbrev pub refutationOf : List ℕ → List ℕ → Refutation
+refutationOf d s = refutationIn (layoutOf (described d)) s
+
 -- ---- exactly when
 pub inhabited↔ : (d s : List ℕ) → (verdict d s ≡ answer INHABITED none) ↔ (AcceptedBytes d × GraphKept (described d) (wanted (described d)) s)
 inhabited↔ d s = let w = shown↔ d s INHABITED (λ e. let z : _≡_ {A = ℕ} 0 1 = cc in omega arith) in (
@@ -75,9 +84,9 @@ module _ (d s : List ℕ) (v : Verdict) (e : ofVerdict v ≡ verdict d s) where
 -- ---- and written: for evidence that is INHABITED, and no other, a line of n·K elements is written if they are at most 64 and a buffer of b bytes has room for it
 module _ (d s : List ℕ) (b : ℕ) where
   abbrev size : ℕ
-  size = length (graphIn s) * copies (graphIn s)
+  size = length (graphOf d s) * copies (graphOf d s)
 
-  pub inhabited-written : verdict d s ≡ answer INHABITED none → size ≤ mostElements → lineLength size ≤ b → writeAnswer d s b ≡ answer WRITTEN none
+  pub inhabited-written : verdict d s ≡ answer INHABITED none → size ≤ mostElements → lineLength (nameSize (described d)) size ≤ b → writeAnswer d s b ≡ answer WRITTEN none
   inhabited-written e few room = written↔ d s b .1 (inhabited↔ d s .0 e, (few, room))
 
   pub written-inhabited : writeAnswer d s b ≡ answer WRITTEN none → verdict d s ≡ answer INHABITED none
@@ -86,14 +95,14 @@ module _ (d s : List ℕ) (b : ℕ) where
 -- ---- and true
 -- after INHABITED the line of the graph is a model of the description, and has the root
 pub inhabited-true : (d s : List ℕ) → verdict d s ≡ answer INHABITED none
-    → let D = described d in Model D (line D (graphIn s)) × Satisfies D (wanted D) (line D (graphIn s))
-inhabited-true d s e = let k = inhabited↔ d s .0 e in graph-sound (described d) (k .0 .accepted) (wanted (described d)) (graphIn s) (k .1 .keeps)
+    → let D = described d in Model D (line D (graphOf d s)) × Satisfies D (wanted D) (line D (graphOf d s))
+inhabited-true d s e = let k = inhabited↔ d s .0 e in graph-sound (described d) (k .0 .accepted) (wanted (described d)) (graphOf d s) (k .1 .keeps)
 
 -- after EMPTY no finite model of any size has it
 pub empty-true : (d s : List ℕ) → verdict d s ≡ answer EMPTY none
     → (I : Interpretation) → Model (described d) I → Satisfies (described d) (wanted (described d)) I → ⊥
-empty-true d s e = let k = empty↔ d s .0 e in refutation-sound (described d) (k .0 .accepted) (wanted (described d)) (refutationIn s) (k .1 .closes)
+empty-true d s e = let k = empty↔ d s .0 e in refutation-sound (described d) (k .0 .accepted) (wanted (described d)) (refutationOf d s) (k .1 .closes)
 
 -- so no description has evidence of both kinds
 pub never-both : (d s t : List ℕ) → verdict d s ≡ answer INHABITED none → verdict d t ≡ answer EMPTY none → ⊥
-never-both d s t p q = let m = inhabited-true d s p in empty-true d t q (line (described d) (graphIn s)) (m .0) (m .1)
+never-both d s t p q = let m = inhabited-true d s p in empty-true d t q (line (described d) (graphOf d s)) (m .0) (m .1)

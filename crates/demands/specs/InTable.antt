@@ -16,6 +16,9 @@ use Rattle.graph.specs.Graphs.{Edge, Node, nodeAt}
 use Rattle.refutation.specs.Records.{unshown, cited, Step, contradiction, conjunction, disjunction, byRule, caseSplit, counting}
 use Rattle.refutation.specs.Records.{Record, recordAt, numberAt, Formed, CiteOk}
 use Rattle.intake.specs.Intake.{described, AcceptedBytes, accepted-sizes}
+use Rattle.labels.specs.Labels.{literals-fit}
+use Rattle.evidence.specs.declared.Layout.{Layout}
+use Rattle.evidence.specs.Evidence.{layoutOf, labelSize}
 use Rattle.demands.specs.Lifted.{Evidence, sample, refutation, KeepsRules}
 
 -- a node of a graph of that size: a set of the table's literals, and edges along the table's roles to nodes of the graph
@@ -72,24 +75,24 @@ keeps-in-table D (refutation C) k = λ i l. let r = k .valid .records i l in rec
   step-in = step-in-table D (numberAt C) i (members (numberAt C i)) (recordAt C i .step) (k .valid .forms i l) (r .cite-ok);
 }
 
--- labels of 8 bytes and masks of 2
-abbrev pub Narrow : Evidence → Type 0
-Narrow (sample G) = (x : ℕ) → x < length G → (nodeAt G x .label < 2 ^ 64) × ((E : Edge) → E ∈ nodeAt G x .edges → E .mask < 2 ^ 16)
-Narrow (refutation C) = (i : ℕ) → i < length C → recordAt C i .label < 2 ^ 64
+-- labels that have room in the bytes of one, and masks that have room in 2
+abbrev pub Fitting : Layout → Evidence → Type 0
+Fitting f (sample G) = (x : ℕ) → x < length G → (nodeAt G x .label < 2 ^ (8 * labelSize f)) × ((E : Edge) → E ∈ nodeAt G x .edges → E .mask < 2 ^ 16)
+Fitting f (refutation C) = (i : ℕ) → i < length C → recordAt C i .label < 2 ^ (8 * labelSize f)
 
--- so lifted evidence is as narrow as stored evidence, for a description that bytes are
-pub keeps-narrow : (d : List ℕ) → AcceptedBytes d → (E : Evidence) → KeepsRules (described d) E → Narrow E
-keeps-narrow d a E k = go E (keeps-in-table (described d) E k)
+-- so lifted evidence has room in the bytes of stored evidence, for a description that bytes are
+pub keeps-fitting : (d : List ℕ) → AcceptedBytes d → (E : Evidence) → KeepsRules (described d) E → Fitting (layoutOf (described d)) E
+keeps-fitting d a E k = go E (keeps-in-table (described d) E k)
   where
     D : Description
     D = described d
 
-    labels : 2 ^ (2 * D .entries) ≤ 2 ^ 64
-    labels = let h : 2 * D .entries ≤ 64 = omega (arith, accepted-sizes d a) in pow-mono h
+    labels : 2 ^ (2 * D .entries) ≤ 2 ^ (8 * labelSize (layoutOf D))
+    labels = pow-mono (literals-fit (D .entries) (accepted-sizes d a .3))
 
     masks : 2 ^ D .roles ≤ 2 ^ 16
     masks = let h : D .roles ≤ 16 = omega (arith, accepted-sizes d a) in pow-mono h
 
-    go : (E : Evidence) → EvidenceInTable D E → Narrow E
+    go : (E : Evidence) → EvidenceInTable D E → Fitting (layoutOf D) E
     go (sample G) t = λ x l. (omega (arith, labels, t x l .label-in), λ E m. omega (arith, masks, t x l .masks-in E m))
     go (refutation C) t = λ i l. omega (arith, labels, t i l .label-in)

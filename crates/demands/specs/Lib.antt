@@ -1,5 +1,6 @@
 pub mod Exact
 pub mod Lifted
+pub mod Widths
 pub mod InTable
 pub mod Cut
 pub mod Trials
@@ -7,3 +8,4 @@ pub mod Others
 pub mod Steps
 pub mod ClaimExact
 pub mod ClaimTrials
+pub mod WideTrials

@@ -14,7 +14,8 @@ use Rattle.refutation.specs.Records.{Refutation, Closes, RefutationFits}
 use Rattle.refutation.specs.RecordTests.{storedRefutation}
 use Rattle.checker.specs.Demands as Checked
 use Rattle.intake.specs.Intake.{described, AcceptedBytes}
-use Rattle.evidence.specs.Evidence.{HeadOk, recordCount, recordAt, graphIn, NodeForm}
+use Rattle.evidence.specs.declared.Layout.{Layout}
+use Rattle.evidence.specs.Evidence.{layoutOf, HeadOk, recordCount, recordAt, graphIn, NodeForm}
 use Rattle.lists.specs.Lists.{refutationIn, RecordForm}
 use Rattle.encoding.specs.Places.{Small, small-all}
 use Rattle.encoding.specs.Encoding.{encodeGraph, GraphStored, graph-stored, graph-bytes, graph-fits, graph-again, encodeRefutation, RefutationStored, refutation-stored, refutation-bytes, refutation-fits, refutation-again}
@@ -42,24 +43,28 @@ abbrev pub wordOf : Evidence → Word
 wordOf (sample G) = INHABITED
 wordOf (refutation C) = EMPTY
 
--- bytes that are that evidence: 9 and 10 pass, and it is what the records are
-abbrev pub Decodes : List ℕ → Evidence → Type 0
-Decodes s (sample G) = HeadOk s × (byteAt s 0 ≡ 1) × ((x : ℕ) → x < recordCount s → NodeForm (length (recordAt s x))) × (graphIn s ≡ G)
-Decodes s (refutation C) = HeadOk s × (byteAt s 0 ≡ 2) × ((x : ℕ) → x < recordCount s → RecordForm (recordAt s x)) × (refutationIn s ≡ C)
+-- bytes that are that evidence, stored as f says: 9 and 10 pass, and it is what the records are
+abbrev pub Decodes : Layout → List ℕ → Evidence → Type 0
+Decodes f s (sample G) = HeadOk s × (byteAt s 0 ≡ 1) × ((x : ℕ) → x < recordCount s → NodeForm f (length (recordAt s x))) × (graphIn f s ≡ G)
+Decodes f s (refutation C) = HeadOk s × (byteAt s 0 ≡ 2) × ((x : ℕ) → x < recordCount s → RecordForm f (recordAt s x)) × (refutationIn f s ≡ C)
 
 -- what bytes have room for: 64 records, and the widths of pairs and of all numbers
-abbrev pub Stored : Evidence → Type 0
-Stored (sample G) = GraphStored G
-Stored (refutation C) = RefutationStored C
+abbrev pub Stored : Layout → Evidence → Type 0
+Stored f (sample G) = GraphStored f G
+Stored f (refutation C) = RefutationStored f C
 
-abbrev pub encode : Evidence → List ℕ
-encode (sample G) = encodeGraph G
-encode (refutation C) = encodeRefutation C
+abbrev pub encode : Layout → Evidence → List ℕ
+encode f (sample G) = encodeGraph f G
+encode f (refutation C) = encodeRefutation f C
 
 -- ---- the answers to bytes that are evidence
 module _ (d : List ℕ) (accepted : AcceptedBytes d) where
+  -- how evidence for it is stored
+  abbrev stores : Layout
+  stores = layoutOf (described d)
+
   -- its word is told exactly if it keeps the rules and the limits
-  pub decoded↔ : (s : List ℕ) (E : Evidence) → Decodes s E → (verdict d s ≡ answer (wordOf E) none) ↔ (KeepsRules (described d) E × WithinLimits E)
+  pub decoded↔ : (s : List ℕ) (E : Evidence) → Decodes stores s E → (verdict d s ≡ answer (wordOf E) none) ↔ (KeepsRules (described d) E × WithinLimits E)
   decoded↔ s (sample G) (head, kind, forms, is) =
       subst (λ H. (verdict d s ≡ answer INHABITED none) ↔ (KeepsRules (described d) (sample H) × WithinLimits (sample H))) is (
         λ e. let k = inhabited↔ d s .0 e .1 in (k .keeps, k .fits),
@@ -72,7 +77,7 @@ module _ (d : List ℕ) (accepted : AcceptedBytes d) where
       )
 
   -- within the limits it keeps the rules exactly when the answer is INHABITED or EMPTY
-  pub keeps-when : (s : List ℕ) (E : Evidence) → Decodes s E → WithinLimits E
+  pub keeps-when : (s : List ℕ) (E : Evidence) → Decodes stores s E → WithinLimits E
       → KeepsRules (described d) E ↔ ((verdict d s ≡ answer INHABITED none) ⊎ (verdict d s ≡ answer EMPTY none))
   keeps-when s (sample G) is fits = let w = decoded↔ s (sample G) is in (
     λ k. inl (w .1 (k, fits)),
@@ -84,40 +89,41 @@ module _ (d : List ℕ) (accepted : AcceptedBytes d) where
   )
 
 -- bytes are one evidence at most
-pub decodes-one : (s : List ℕ) (E F : Evidence) → Decodes s E → Decodes s F → E ≡ F
-decodes-one s (sample G) (sample H) p q = ap sample (sym (p .3) ∙ q .3)
-decodes-one s (sample G) (refutation C) p q = absurd (omega (arith, p .1, q .1))
-decodes-one s (refutation C) (sample G) p q = absurd (omega (arith, p .1, q .1))
-decodes-one s (refutation C) (refutation B) p q = ap refutation (sym (p .3) ∙ q .3)
+pub decodes-one : (f : Layout) (s : List ℕ) (E F : Evidence) → Decodes f s E → Decodes f s F → E ≡ F
+decodes-one f s (sample G) (sample H) p q = ap sample (sym (p .3) ∙ q .3)
+decodes-one f s (sample G) (refutation C) p q = absurd (omega (arith, p .1, q .1))
+decodes-one f s (refutation C) (sample G) p q = absurd (omega (arith, p .1, q .1))
+decodes-one f s (refutation C) (refutation B) p q = ap refutation (sym (p .3) ∙ q .3)
 
 -- and only evidence that keeps the rules is answered so: bytes that are none never are
 pub only-evidence : (d s : List ℕ) → (verdict d s ≡ answer INHABITED none) ⊎ (verdict d s ≡ answer EMPTY none)
-    → (E : Evidence) × Decodes s E × KeepsRules (described d) E × WithinLimits E
-only-evidence d s (inl e) = let k = inhabited↔ d s .0 e .1 in (sample (graphIn s), (k .head, k .is-graph, k .formed, refl), k .keeps, k .fits)
-only-evidence d s (inr e) = let k = empty↔ d s .0 e .1 in (refutation (refutationIn s), (k .head, k .is-list, k .formed, refl), k .closes, k .fits)
+    → (E : Evidence) × Decodes (layoutOf (described d)) s E × KeepsRules (described d) E × WithinLimits E
+only-evidence d s (inl e) = let k = inhabited↔ d s .0 e .1 in (sample (graphIn (layoutOf (described d)) s), (k .head, k .is-graph, k .formed, refl), k .keeps, k .fits)
+only-evidence d s (inr e) = let k = empty↔ d s .0 e .1 in (refutation (refutationIn (layoutOf (described d)) s), (k .head, k .is-list, k .formed, refl), k .closes, k .fits)
 
 -- ---- lifted evidence that bytes have room for is the evidence of some bytes
-pub stored : (E : Evidence) → Stored E → Small (encode E) × Decodes (encode E) E
-stored (sample G) w = (small-all (graph-bytes G w), graph-stored G w)
-stored (refutation C) w = (small-all (refutation-bytes C w), refutation-stored C w)
+pub stored : (f : Layout) (E : Evidence) → Stored f E → Small (encode f E) × Decodes f (encode f E) E
+stored f (sample G) w = (small-all (graph-bytes f G w), graph-stored f G w)
+stored f (refutation C) w = (small-all (refutation-bytes f C w), refutation-stored f C w)
 
 -- and the evidence of some bytes is lifted evidence that bytes have room for,
-pub decoded-stored : (s : List ℕ) (E : Evidence) → Small s → Decodes s E → Stored E
-decoded-stored s (sample G) b (head, kind, forms, is) = subst GraphStored is (graph-fits b head forms)
-decoded-stored s (refutation C) b (head, kind, forms, is) = subst RefutationStored is (refutation-fits b head forms)
+pub decoded-stored : (f : Layout) (s : List ℕ) (E : Evidence) → Small s → Decodes f s E → Stored f E
+decoded-stored f s (sample G) b (head, kind, forms, is) = subst (GraphStored f) is (graph-fits f b head forms)
+decoded-stored f s (refutation C) b (head, kind, forms, is) = subst (RefutationStored f) is (refutation-fits f b head forms)
 
 -- of no other bytes: it is written as they are
-pub encode-decoded : (s : List ℕ) (E : Evidence) → Small s → Decodes s E → encode E ≡ s
-encode-decoded s (sample G) b (head, kind, forms, is) = subst (λ H. encodeGraph H ≡ s) is (graph-again b head forms kind)
-encode-decoded s (refutation C) b (head, kind, forms, is) = subst (λ B. encodeRefutation B ≡ s) is (refutation-again b head forms kind)
+pub encode-decoded : (f : Layout) (s : List ℕ) (E : Evidence) → Small s → Decodes f s E → encode f E ≡ s
+encode-decoded f s (sample G) b (head, kind, forms, is) = subst (λ H. encodeGraph f H ≡ s) is (graph-again f b head forms kind)
+encode-decoded f s (refutation C) b (head, kind, forms, is) = subst (λ B. encodeRefutation f B ≡ s) is (refutation-again f b head forms kind)
 
 -- so bytes have room for what some bytes are, and for nothing else
-pub stored-when : (E : Evidence) → Stored E ↔ ((s : List ℕ) × Small s × Decodes s E)
-stored-when E = (λ w. (encode E, stored E w .0, stored E w .1), λ t. decoded-stored (t .0) E (t .1) (t .2))
+pub stored-when : (f : Layout) (E : Evidence) → Stored f E ↔ ((s : List ℕ) × Small s × Decodes f s E)
+stored-when f E = (λ w. (encode f E, stored f E w .0, stored f E w .1), λ t. decoded-stored f (t .0) E (t .1) (t .2))
 
 -- within the limits, then, it keeps the rules exactly when its word is the answer to its bytes
-pub stored↔ : (d : List ℕ) → AcceptedBytes d → (E : Evidence) → Stored E → WithinLimits E → KeepsRules (described d) E ↔ (verdict d (encode E) ≡ answer (wordOf E) none)
-stored↔ d a E w fits = let t = decoded↔ d a (encode E) E (stored E w .1) in (λ k. t .1 (k, fits), λ e. t .0 e .0)
+pub stored↔ : (d : List ℕ) → AcceptedBytes d → let f = layoutOf (described d) in (E : Evidence) → Stored f E → WithinLimits E
+    → KeepsRules (described d) E ↔ (verdict d (encode f E) ≡ answer (wordOf E) none)
+stored↔ d a E w fits = let f = layoutOf (described d) in let t = decoded↔ d a (encode f E) E (stored f E w .1) in (λ k. t .1 (k, fits), λ e. t .0 e .0)
 
 -- ---- for every accepted description
 module _ (d : List ℕ) (accepted : AcceptedBytes d) where

@@ -20,14 +20,15 @@ use Rattle.refutation.specs.Cells.{rowsOf, bounds}
 use Rattle.refutation.specs.Records.{Cell, unshown, cited, conjunction, disjunction, Refutation, openAt}
 use Rattle.refutation.specs.Examples.{noneHas, clash, count}
 use Rattle.encoding.specs.Bundles.{bundle}
+use Rattle.encoding.specs.Numbers.{label}
 use Rattle.encoding.specs.Nodes.{encodeNode}
 use Rattle.encoding.specs.Trees.{encodeTree}
 use Rattle.encoding.specs.Steps.{encodeStep}
 use Rattle.encoding.specs.Encoding.{encodeGraph, encodeRecord, encodeRefutation}
 use Rattle.intake.specs.Intake.{described}
-use Rattle.evidence.specs.Evidence.{graphIn}
+use Rattle.evidence.specs.Evidence.{layoutOf}
 use Rattle.answers.specs.Answers.{REFUSED, INHABITED, EMPTY}
-use Rattle.demands.specs.Exact.{inhabited-true, empty-true}
+use Rattle.demands.specs.Exact.{graphOf, inhabited-true, empty-true}
 use Rattle.demands.specs.Trials.{Trial, checks, Outcome, tells, outcome, told}
 
 -- records 0 to 2 of both refutations: names A 2, B 4 and C 6 with their complements
@@ -183,10 +184,10 @@ pairs-list tree =
 
 -- ---- the table
 abbrev sampled : List ℕ → Graph → Trial
-sampled d G = checks d (encodeGraph G)
+sampled d G = checks d (encodeGraph (layoutOf (described d)) G)
 
 abbrev refuted : List ℕ → Refutation → Trial
-refuted d C = checks d (encodeRefutation C)
+refuted d C = checks d (encodeRefutation (layoutOf (described d)) C)
 
 pub others : List (Trial × Outcome)
 unfolding four four-graph four-cells four-list pairs oneOf pairs-cell pairs-cells pairs-rows pairs-list abc-tree tabulate
@@ -202,22 +203,22 @@ others =
     ∷ []
 
 pub others-hold : map (λ t. outcome (t .0)) others ≡ map (λ t. t .1) others
-unfolding others outcome flatten bundle encodeNode encodeRecord encodeStep encodeTree
+unfolding others outcome flatten bundle label encodeNode encodeRecord encodeStep encodeTree
 others-hold = refl
 
 -- ---- what they say
 -- with at most 3 A some model has the class, so that EMPTY would be false; with at most 2 none has
-pub four-inhabited : let D = described (four 4) in let I = line D (graphIn (encodeGraph four-graph)) in Model D I × Satisfies D (wanted D) I
-unfolding four four-graph outcome flatten bundle encodeNode
-four-inhabited = inhabited-true (four 4) (encodeGraph four-graph) refl
+pub four-inhabited : let D = described (four 4) in let I = line D (graphOf (four 4) (encodeGraph (layoutOf D) four-graph)) in Model D I × Satisfies D (wanted D) I
+unfolding four four-graph outcome flatten bundle label encodeNode
+four-inhabited = inhabited-true (four 4) (encodeGraph (layoutOf (described (four 4))) four-graph) refl
 
 pub four-empty : (I : Interpretation) → Model (described (four 3)) I → Satisfies (described (four 3)) (wanted (described (four 3))) I → ⊥
-unfolding four four-cells four-list outcome flatten bundle encodeRecord encodeStep encodeTree
-four-empty = empty-true (four 3) (encodeRefutation four-list) refl
+unfolding four four-cells four-list outcome flatten bundle label encodeRecord encodeStep encodeTree
+four-empty = empty-true (four 3) (encodeRefutation (layoutOf (described (four 3))) four-list) refl
 
 pub pairs-empty : (I : Interpretation) → Model (described pairs) I → Satisfies (described pairs) (wanted (described pairs)) I → ⊥
-unfolding pairs oneOf pairs-cell pairs-cells pairs-rows pairs-list abc-tree tabulate outcome flatten bundle encodeRecord encodeStep encodeTree
-pairs-empty = empty-true pairs (encodeRefutation (pairs-list abc-tree)) refl
+unfolding pairs oneOf pairs-cell pairs-cells pairs-rows pairs-list abc-tree tabulate outcome flatten bundle label encodeRecord encodeStep encodeTree
+pairs-empty = empty-true pairs (encodeRefutation (layoutOf (described pairs)) (pairs-list abc-tree)) refl
 
 -- the rows and the open cells of the counting step are counting's abc, which half a filler in each open cell meets, and which no leaf closes
 -- (abc-halves, abc-no-leaf)

@@ -21,6 +21,7 @@ use Rattle.graph.specs.Line.{copies, joins, direct, pairs}
 use Rattle.refutation.specs.Cells.{rowsOf, bounds, cellRole, known}
 use Rattle.refutation.specs.RecordTests.{whenCounting, ifCited, citeTest, stepTest, recordRefusal, endLabel, refutationRefusal}
 use Rattle.intake.specs.Intake.{sizesTest, partsTest, bytesTest}
+use Rattle.labels.specs.Labels.{labelBytes, nameBytes, labelIn, namesIn}
 use Rattle.evidence.specs.Evidence.{headTest, headOf, nodeFormTest}
 use Rattle.lines.specs.Lines.{lineByte}
 use Rattle.graph_check.specs.GraphEvidence.{graphTests, graphRefused}
@@ -46,7 +47,7 @@ pub data Outcome : Type 0 where
 -- `unfolding outcome` unfolds all that these trials compute with
 unfoldable pub outcome : Trial → Outcome
 unfolding verdict claimAnswer pieces bytesTest partsTest sizesTest fills fillsFrom descriptionTests entryTest entryFrom simple ancestor closure sameEntry ifBoth ifEvery ifLeast isBoth
-    headTest headOf nodeFormTest graphTests graphRefused graphRefusal nodeRefusal labelTest bothTest edgeTest everyTest countTest total
+    headTest headOf labelBytes labelIn nameBytes namesIn nodeFormTest graphTests graphRefused graphRefusal nodeRefusal labelTest bothTest edgeTest everyTest countTest total
     recordFormTest nodeIn treeIn countingIn stepOf listTests refutationRefusal recordRefusal whenCounting ifCited citeTest stepTest endLabel
     formed depth leafTest treeTest rowsOf bounds known cellRole writeRefused copies maxBelow lineByte joins direct pairs
     literal members adding literalSet labelOf refuseFrom allBelow anyBelow each tabulate has nonempty narrow within with setOf

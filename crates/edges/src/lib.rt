@@ -42,7 +42,7 @@ fn cut_edge(es: &[u8], j: u8) -> Edge
 pub fn edge_at(es: &[u8], j: u8) -> Edge
     ensures { λ r. ⌜ (r ≡ edgeStruct (now (es .entry)) j) × (r .count < 65536) ⌝ }
 {
-    let at = 5 * (j as usize);
+    let at = (5 * (j as u32)) as usize;
     if es.len() < at + 5 {
         return cut_edge(es, j);
     }

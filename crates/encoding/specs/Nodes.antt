@@ -3,21 +3,22 @@ use Prim.Native.Nat.{ℕ, _+_, _*_, _/_, _%_, _^_, _≤_, _<_}
 use mathlib.Core.Path.{_≡_, refl, sym, _∙_, ap, ap₂}
 use mathlib.Core.List.{List, [], _∷_, _++_, map, flatten}
 use native.Mathlib.Omega.{arith}
-use lib.ListN.{length, getD, drop, length-drop, length-map}
+use lib.ListN.{length, getD, drop, length-append, length-drop, length-map}
 use Rattle.logic.specs.Lists.{_∈_, length-tabulate, at-tabulate}
 use Rattle.parts.specs.Numbers.{num2}
 use Rattle.graph.specs.Graphs.{Edge, Node}
-use Rattle.evidence.specs.Evidence.{edgeIn, edgesIn, nodeIn, mostEdges, NodeForm}
+use Rattle.evidence.specs.declared.Layout.{Layout}
+use Rattle.evidence.specs.Evidence.{labelSize, edgeIn, edgesIn, nodeIn, mostEdges, NodeForm}
 use Rattle.encoding.specs.Places.{Stands, first, second, byte, stands-append, stands-more, stands-whole, before, stands-piece, before-all, before-even, stands-flatten, read-off, at-map, each-map, each-value, Small, small-more, small-append, small-flatten, small-at, small-drop}
-use Rattle.encoding.specs.Numbers.{two, eight, two-bytes, eight-bytes, label-back, label-again}
+use Rattle.encoding.specs.Numbers.{two, label, two-bytes, label-bytes, label-back, label-behind, label-again}
 
 -- the target, the mask, the count
 abbrev pub encodeEdge : Edge → List ℕ
 encodeEdge E = E .target ∷ (two (E .mask) ++ two (E .count))
 
 -- a label, then edges
-unfoldable pub encodeNode : Node → List ℕ
-encodeNode N = eight (N .label) ++ flatten (map encodeEdge (N .edges))
+unfoldable pub encodeNode : Layout → Node → List ℕ
+encodeNode f N = label (f .wide) (N .label) ++ flatten (map encodeEdge (N .edges))
 
 -- ---- what these bytes have room for
 pub record EdgeWidth (E : Edge) : Type 0 where
@@ -25,8 +26,8 @@ pub record EdgeWidth (E : Edge) : Type 0 where
   pub mask-fits : E .mask < 65536
   pub count-fits : E .count < 65536
 
-pub record NodeWidth (N : Node) : Type 0 where
-  pub label-fits : N .label < 2 ^ 64
+pub record NodeWidth (f : Layout) (N : Node) : Type 0 where
+  pub label-fits : N .label < 2 ^ (8 * labelSize f)
   pub few-edges : length (N .edges) ≤ mostEdges
   pub edges-fit : (E : Edge) → E ∈ N .edges → EdgeWidth E
 
@@ -59,22 +60,24 @@ module _ (es : List Edge) where
       (λ j h. let l : j < length es = omega (arith, edges-length) in
       edge-back j _ (rw (edge-at j l, before-edge j (omega arith)) at (stands-piece (map encodeEdge es) [] j (omega (arith, length-map es encodeEdge)))))
 
-module _ (N : Node) where
-  pub node-back : nodeIn (encodeNode N) ≡ N
+module _ (f : Layout) (N : Node) where
+  pub node-back : nodeIn f (encodeNode f N) ≡ N
   unfolding encodeNode
-  node-back = ap₂ (λ L es. record { label = L; edges = es }) (label-back (N .label) (flatten (map encodeEdge (N .edges)))) (edges-back (N .edges))
+  node-back = let behind = flatten (map encodeEdge (N .edges)) in ap₂ (λ L es. record { label = L; edges = es })
+      (label-back (f .wide) (N .label) behind) (ap edgesIn (label-behind (f .wide) (N .label) behind) ∙ edges-back (N .edges))
 
-  pub node-length : length (encodeNode N) ≡ 8 + 5 * length (N .edges)
+  pub node-length : length (encodeNode f N) ≡ labelSize f + 5 * length (N .edges)
   unfolding encodeNode
-  node-length = omega (arith, edges-length (N .edges))
+  node-length = let behind = flatten (map encodeEdge (N .edges)) in
+      omega (arith, length-append (label (f .wide) (N .label)) behind, label-bytes (f .wide) .long (N .label), edges-length (N .edges))
 
-  pub node-form : NodeWidth N → NodeForm (length (encodeNode N))
-  node-form w = omega (arith, node-length)
+  pub node-form : NodeWidth f N → NodeForm f (length (encodeNode f N))
+  node-form w = omega (arith, node-length, w .few-edges)
 
   -- it is bytes
-  pub node-small : NodeWidth N → Small (encodeNode N)
+  pub node-small : NodeWidth f N → Small (encodeNode f N)
   unfolding encodeNode
-  node-small w = small-append (eight (N .label)) (eight-bytes .small (N .label) (w .label-fits))
+  node-small w = small-append (label (f .wide) (N .label)) (label-bytes (f .wide) .small (N .label) (w .label-fits))
       (small-flatten (map encodeEdge (N .edges)) (each-map Small encodeEdge (N .edges) (λ E m. edge-small E (w .edges-fit E m))))
     where
       edge-small : (E : Edge) → EdgeWidth E → Small (encodeEdge E)
@@ -95,16 +98,25 @@ edges-again es b e = stands-whole _ (stands-flatten (map encodeEdge (edgesIn es)
     here j h = let l : j < length es / 5 = omega (arith, many, length-map (edgesIn es) encodeEdge) in let z : 0 + 5 * j ≡ 5 * j = omega arith in
         rw (before-edge (edgesIn es) j (omega (arith, many)), z, edge-at (edgesIn es) j (omega (arith, many)), at-tabulate (length es / 5) (edgeIn es) noEdge j l) (edge-again j b (omega arith))
 
-module _ {r : List ℕ} (b : Small r) (f : NodeForm (length r)) where
-  pub node-again : encodeNode (nodeIn r) ≡ r
+module _ (f : Layout) {r : List ℕ} (b : Small r) (form : NodeForm f (length r)) where
+  abbrev behind : List ℕ
+  behind = drop (labelSize f) r
+
+  small-behind : Small behind
+  small-behind = small-drop (labelSize f) b
+
+  pub node-again : encodeNode f (nodeIn f r) ≡ r
   unfolding encodeNode
-  node-again = label-again _ b (f .0) (edges-again (drop 8 r) (small-drop 8 b) (rw (length-drop 8 r) (f .1 .0)))
+  node-again = label-again (f .wide) _ b (form .0) (edges-again behind small-behind (rw (length-drop (labelSize f) r) (form .1 .0)))
 
   -- what is read from bytes has their widths
-  pub node-width : NodeWidth (nodeIn r)
+  pub node-width : NodeWidth f (nodeIn f r)
   node-width = record {
-    label-fits = eight-bytes .fits 0 b;
-    few-edges = omega (arith, f .1 .1, length-tabulate (length (drop 8 r) / 5) (edgeIn (drop 8 r)), length-drop 8 r);
-    edges-fit = each-value EdgeWidth (length (drop 8 r) / 5) (edgeIn (drop 8 r)) (λ j h. let s = small-drop 8 b in
-        record { target-fits = small-at s (5 * j); mask-fits = two-bytes .fits (5 * j + 1) s; count-fits = two-bytes .fits (5 * j + 3) s });
+    label-fits = label-bytes (f .wide) .fits 0 b;
+    few-edges = omega (arith, form .1 .1, length-tabulate (length behind / 5) (edgeIn behind), length-drop (labelSize f) r);
+    edges-fit = each-value EdgeWidth (length behind / 5) (edgeIn behind) (λ j h. record {
+      target-fits = small-at small-behind (5 * j);
+      mask-fits = two-bytes .fits (5 * j + 1) small-behind;
+      count-fits = two-bytes .fits (5 * j + 3) small-behind;
+    });
   }

@@ -1,15 +1,17 @@
 -- Numbers of several bytes, high byte first (01, opening and "Evidence"): written, and read where they stand. For any width.
-use Prim.Native.Nat.{ℕ, suc, _+_, _*_, _/_, _%_, _^_, _≤_, _<_}
-use mathlib.Core.Path.{_≡_, refl, sym, _∙_, ap₂}
+use Prim.Native.Nat.{ℕ, _+_, _*_, _/_, _%_, _^_, _≤_, _<_}
+use mathlib.Core.Path.{_≡_, refl, sym, _∙_, ap, ap₂}
+use mathlib.Core.Bool.{Bool, true, false, cond}
 use mathlib.Core.List.{List, [], _∷_, _++_}
 use native.Mathlib.Omega.{arith}
-use native.Mathlib.Nat.{mod-lt, mul-le-mul-right, suc-mul}
+use native.Mathlib.Nat.{mod-lt}
 use lib.Pow as Pow
-use lib.Pow.{split, shr-lt, pow-pos, pow-add}
-use lib.ListN.{length, drop, length-append, take-append-drop}
+use lib.Pow.{split, shr-lt, pow-pos}
+use lib.ListN.{length, take, drop, length-append, take-append-drop}
+use lib.Seq.{drop-append-seam}
 use Rattle.parts.specs.Numbers.{byteAt, num2}
-use Rattle.labels.specs.Blocks.{block}
-use Rattle.labels.specs.Labels.{labelIn}
+use Rattle.labels.specs.Blocks.{block, block-lt}
+use Rattle.labels.specs.Labels.{labelBytes, num8, labelIn}
 use Rattle.encoding.specs.Places.{Stands, stands-end, first, second, byte, part, stands-none, stands-append, stands-more, Small, small-none, small-more, small-append, small-at}
 
 abbrev pub two : ℕ → List ℕ
@@ -18,9 +20,15 @@ two n = n / 256 ∷ n % 256 ∷ []
 abbrev pub four : ℕ → List ℕ
 four n = two (n / 2 ^ 16) ++ two (n % 2 ^ 16)
 
--- a label
 abbrev pub eight : ℕ → List ℕ
 eight n = four (n / 2 ^ 32) ++ four (n % 2 ^ 32)
+
+abbrev pub sixteen : ℕ → List ℕ
+sixteen n = eight (n / 2 ^ 64) ++ eight (n % 2 ^ 64)
+
+-- a label, wide or not
+unfoldable pub label : Bool → ℕ → List ℕ
+label broad n = cond broad (sixteen n) (eight n)
 
 -- numbers of w bytes: as they are written they are read, and they are bytes if the number has no more
 pub record Written (w : ℕ) (write : ℕ → List ℕ) (read : List ℕ → ℕ → ℕ) : Type 0 where
@@ -53,7 +61,7 @@ twice {w} {write} {read} k = record {
       rw (Pow.high (read s at) (8 * w) l, Pow.low (read s at) (8 * w) l) (stands-append (write (read s at)) (write (read s (at + w)))
       (k .again b (omega arith)) (rw (k .long (read s at)) (k .again b (omega arith))));
   fits = λ {s} at b. let e : 8 * (2 * w) ≡ 8 * w + 8 * w = omega arith in
-      rw (e, pow-add 2 (8 * w) (8 * w)) (block-lt (k .fits at b) (k .fits (at + w) b));
+      rw e (block-lt (8 * w) (read s at) (read s (at + w)) (k .fits at b) (k .fits (at + w) b));
 }
   where
     high : ℕ → ℕ
@@ -62,18 +70,26 @@ twice {w} {write} {read} k = record {
     low : ℕ → ℕ
     low n = n % 2 ^ (8 * w)
 
-    block-lt : {a b m : ℕ} → a < m → b < m → a * m + b < m * m
-    block-lt {a} {b} {m} h l = let z : suc a * m ≤ m * m = mul-le-mul-right m h in omega (arith, z, suc-mul a m)
-
 pub two-bytes : Written 2 two num2
 two-bytes = twice one
 
-pub eight-bytes : Written 8 eight labelIn
+eight-bytes : Written 8 eight num8
 eight-bytes = twice (twice two-bytes)
 
--- a label at the front
-pub label-back : (n : ℕ) (after : List ℕ) → labelIn (eight n ++ after) 0 ≡ n
-label-back n after = eight-bytes .back n (first (eight n) after (stands-end [] (eight n ++ after)))
+pub label-bytes : (broad : Bool) → Written (labelBytes broad) (label broad) (labelIn broad)
+unfolding label labelBytes labelIn
+label-bytes true = twice eight-bytes
+label-bytes false = eight-bytes
 
-pub label-again : {r : List ℕ} (after : List ℕ) → Small r → 8 ≤ length r → after ≡ drop 8 r → eight (labelIn r 0) ++ after ≡ r
-label-again {r} after b h e = ap₂ _++_ (sym (part (eight (labelIn r 0)) (eight-bytes .again b h))) e ∙ take-append-drop 8 r
+-- a label at the front
+module _ (broad : Bool) where
+  pub label-back : (n : ℕ) (after : List ℕ) → labelIn broad (label broad n ++ after) 0 ≡ n
+  label-back n after = label-bytes broad .back n (first (label broad n) after (stands-end [] (label broad n ++ after)))
+
+  pub label-behind : (n : ℕ) (after : List ℕ) → drop (labelBytes broad) (label broad n ++ after) ≡ after
+  label-behind n after = ap (λ w. drop w (label broad n ++ after)) (sym (label-bytes broad .long n)) ∙ drop-append-seam (label broad n) after
+
+  pub label-again : {r : List ℕ} (after : List ℕ) → Small r → labelBytes broad ≤ length r → after ≡ drop (labelBytes broad) r
+      → label broad (labelIn broad r 0) ++ after ≡ r
+  label-again {r} after b h e = let n = labelIn broad r 0 in
+      ap₂ _++_ (sym (part (label broad n) (label-bytes broad .again {at = 0} b (omega arith))) ∙ ap (λ w. take w r) (label-bytes broad .long n)) e ∙ take-append-drop (labelBytes broad) r

@@ -9,13 +9,15 @@ use lib.Dec.{eqb, leb}
 use borrow.Author.Tests.{ne-eqb, lt-leb, le-leb}
 use lib.ListN.{length, take, drop, length-drop}
 use native.Mathlib.Omega.{arith}
-use Rattle.logic.specs.Tests.{So, reading}
+use Rattle.logic.specs.Tests.{So, so-false, reading}
 use Rattle.logic.specs.Lists.{tabulate, length-tabulate, at-tabulate}
 use Rattle.logic.specs.Refusals.{unless}
 use Rattle.parts.specs.Numbers.{byteAt, num2}
 use Rattle.parts.specs.Pairs.{offsetAt, lengthAt, endAt, partAt, Fills, fills, fills↔}
-use Rattle.labels.specs.Labels.{labelIn}
+use Rattle.labels.specs.Labels.{wide, labelBytes, labelIn}
+use Rattle.description.specs.Descriptions.{Description}
 use Rattle.graph.specs.Graphs.{Edge, Node, Graph, nodeAt}
+use Rattle.evidence.specs.declared.Layout.{Layout}
 use Rattle.evidence.specs.declared.Head.{Head}
 use Rattle.evidence.specs.declared.Head.the-variants.{GraphOf, RefutationOf, Off}
 
@@ -58,6 +60,17 @@ head-refused s = go (headTest s) (eqb (byteAt s 0) 1)
     go false b = refl
 
 -- ---- records, and the graph
+-- how evidence is stored for a table of n entries (02, job 2), and for a description
+abbrev pub layoutFor : ℕ → Layout
+layoutFor n = record { wide = wide n }
+
+abbrev pub layoutOf : Description → Layout
+layoutOf D = layoutFor (D .entries)
+
+-- the bytes of a label
+abbrev pub labelSize : Layout → ℕ
+labelSize f = labelBytes (f .wide)
+
 abbrev pub recordAt : List ℕ → ℕ → List ℕ
 recordAt s i = partAt s 2 i
 
@@ -69,44 +82,53 @@ abbrev pub edgesIn : List ℕ → List Edge
 edgesIn es = tabulate (length es / 5) (edgeIn es)
 
 -- the label of record i, where its pair says
-abbrev pub labelOf : List ℕ → ℕ → ℕ
-labelOf s i = labelIn s (offsetAt s 2 i)
+unfoldable pub labelOf : Layout → List ℕ → ℕ → ℕ
+labelOf f s i = labelIn (f .wide) s (offsetAt s 2 i)
 
 -- the bytes behind the label of record i, if the record has a label and lies in the evidence; else none
-unfoldable pub edgesPart : List ℕ → ℕ → List ℕ
-edgesPart s i = cond (leb 8 (lengthAt s 2 i) && leb (endAt s 2 i) (length s)) (take (lengthAt s 2 i - 8) (drop (offsetAt s 2 i + 8) s)) []
+unfoldable pub edgesPart : Layout → List ℕ → ℕ → List ℕ
+edgesPart f s i = cond (leb (labelSize f) (lengthAt s 2 i) && leb (endAt s 2 i) (length s)) (take (lengthAt s 2 i - labelSize f) (drop (offsetAt s 2 i + labelSize f) s)) []
 
--- a label of 8 bytes, then edges
-abbrev pub nodeIn : List ℕ → Node
-nodeIn r = record { label = labelIn r 0; edges = edgesIn (drop 8 r) }
+-- a label, then edges
+abbrev pub nodeIn : Layout → List ℕ → Node
+nodeIn f r = record { label = labelIn (f .wide) r 0; edges = edgesIn (drop (labelSize f) r) }
 
 -- the graph that the records are
-abbrev pub graphIn : List ℕ → Graph
-graphIn s = tabulate (recordCount s) (λ i. nodeIn (recordAt s i))
+abbrev pub graphIn : Layout → List ℕ → Graph
+graphIn f s = tabulate (recordCount s) (λ i. nodeIn f (recordAt s i))
 
-pub graph-size : (s : List ℕ) → length (graphIn s) ≡ recordCount s
-graph-size s = length-tabulate (recordCount s) (λ i. nodeIn (recordAt s i))
+pub graph-size : (f : Layout) (s : List ℕ) → length (graphIn f s) ≡ recordCount s
+graph-size f s = length-tabulate (recordCount s) (λ i. nodeIn f (recordAt s i))
 
-pub node-at : (s : List ℕ) (x : ℕ) → x < recordCount s → nodeAt (graphIn s) x ≡ nodeIn (recordAt s x)
-node-at s x h = at-tabulate (recordCount s) (λ i. nodeIn (recordAt s i)) (record { label = 0; edges = [] }) x h
+pub node-at : (f : Layout) (s : List ℕ) (x : ℕ) → x < recordCount s → nodeAt (graphIn f s) x ≡ nodeIn f (recordAt s x)
+node-at f s x h = at-tabulate (recordCount s) (λ i. nodeIn f (recordAt s i)) (record { label = 0; edges = [] }) x h
 
-pub edges-size : (s : List ℕ) (x : ℕ) → x < recordCount s → length (nodeAt (graphIn s) x .edges) ≡ (length (recordAt s x) - 8) / 5
-edges-size s x h = ap (λ N. length (N .edges)) (node-at s x h) ∙ length-tabulate (length (drop 8 (recordAt s x)) / 5) (edgeIn (drop 8 (recordAt s x)))
-    ∙ ap (λ n. n / 5) (length-drop 8 (recordAt s x))
+pub edges-size : (f : Layout) (s : List ℕ) (x : ℕ) → x < recordCount s → length (nodeAt (graphIn f s) x .edges) ≡ (length (recordAt s x) - labelSize f) / 5
+edges-size f s x h = ap (λ N. length (N .edges)) (node-at f s x h) ∙ length-tabulate (length (drop (labelSize f) (recordAt s x)) / 5) (edgeIn (drop (labelSize f) (recordAt s x)))
+    ∙ ap (λ n. n / 5) (length-drop (labelSize f) (recordAt s x))
 
 -- ---- 10, of a graph's record: a label, whole edges, at most 32
 abbrev pub mostEdges : ℕ
 mostEdges = 32
 
-abbrev pub NodeForm : ℕ → Type 0
-NodeForm n = (8 ≤ n) × (((n - 8) % 5 ≡ 0) × ((n - 8) / 5 ≤ mostEdges))
+abbrev pub NodeForm : Layout → ℕ → Type 0
+NodeForm f n = (labelSize f ≤ n) × (((n - labelSize f) % 5 ≡ 0) × ((n - labelSize f) / 5 ≤ mostEdges))
 
-unfoldable pub nodeFormTest : ℕ → Bool
-nodeFormTest n = leb 8 n && (eqb ((n - 8) % 5) 0 && leb ((n - 8) / 5) mostEdges)
+unfoldable pub nodeFormTest : Layout → ℕ → Bool
+nodeFormTest f n = leb (labelSize f) n && (eqb ((n - labelSize f) % 5) 0 && leb ((n - labelSize f) / 5) mostEdges)
 
-pub node-form↔ : (n : ℕ) → So (nodeFormTest n) ↔ NodeForm n
+pub node-form↔ : (f : Layout) (n : ℕ) → So (nodeFormTest f n) ↔ NodeForm f n
 unfolding nodeFormTest
-node-form↔ n = simp reading Iff·rfl
+node-form↔ f n = simp reading Iff·rfl
+
+-- a record of one width, with whole edges behind its label, is none of the other width
+pub other-width : (m : ℕ) → (nodeFormTest (record { wide = true }) (8 + 5 * m) ≡ false) × (nodeFormTest (record { wide = false }) (16 + 5 * m) ≡ false)
+unfolding labelBytes
+other-width m = (so-false _ (λ h. let k = node-form↔ _ _ .0 h in omega arith), so-false _ (λ h. let k = node-form↔ _ _ .0 h in omega arith))
+
+pub label-read : (f : Layout) (s : List ℕ) (i N at : ℕ) → at ≡ offsetAt s 2 i → N ≡ labelIn (f .wide) s at → N ≡ labelOf f s i
+unfolding labelOf
+label-read f s i N at p q = rw (← p) q
 
 -- ---- laws for the code
 module _ (s : List ℕ) where
@@ -149,26 +171,27 @@ module _ (s : List ℕ) where
       go true false e = refl
       go false b e = refl
 
--- the bytes behind a label, where the tests of the record's place pass, and where one fails
-pub edges-inside : (s : List ℕ) (i from n : ℕ) → from ≡ offsetAt s 2 i → n ≡ lengthAt s 2 i → from + 8 ≤ from + n → from + n ≤ length s
-    → take (from + n - (from + 8)) (drop (from + 8) s) ≡ edgesPart s i
-unfolding edgesPart
-edges-inside s i from n p q h k = let l : 8 ≤ lengthAt s 2 i = omega arith in let e : endAt s 2 i ≤ length s = omega arith in
-    let z : from + n - (from + 8) ≡ lengthAt s 2 i - 8 = omega arith in rw (le-leb _ _ l, le-leb _ _ e, z, p) refl
+-- the bytes behind a label of w bytes, where the tests of the record's place pass, and where one fails
+module _ (f : Layout) (s : List ℕ) (i from n w : ℕ) (p : from ≡ offsetAt s 2 i) (q : n ≡ lengthAt s 2 i) (e : w ≡ labelSize f) where
+  pub edges-inside : from + w ≤ from + n → from + n ≤ length s → take (from + n - (from + w)) (drop (from + w) s) ≡ edgesPart f s i
+  unfolding edgesPart
+  edges-inside h k = let l : labelSize f ≤ lengthAt s 2 i = omega arith in let m : endAt s 2 i ≤ length s = omega arith in
+      let z : from + n - (from + w) ≡ lengthAt s 2 i - labelSize f = omega arith in rw (le-leb _ _ l, le-leb _ _ m, z, p, e) refl
 
-pub edges-none : (s : List ℕ) (i from n : ℕ) → from ≡ offsetAt s 2 i → n ≡ lengthAt s 2 i → from + n < from + 8 → [] ≡ edgesPart s i
-unfolding edgesPart
-edges-none s i from n p q h = let l : lengthAt s 2 i < 8 = omega arith in rw (lt-leb _ _ l) refl
+  pub edges-none : from + n < from + w → [] ≡ edgesPart f s i
+  unfolding edgesPart
+  edges-none h = let l : lengthAt s 2 i < labelSize f = omega arith in rw (lt-leb _ _ l) refl
 
-pub edges-past : (s : List ℕ) (i from n : ℕ) → from ≡ offsetAt s 2 i → n ≡ lengthAt s 2 i → from + 8 ≤ from + n → length s < from + n → [] ≡ edgesPart s i
-unfolding edgesPart
-edges-past s i from n p q h k = let l : 8 ≤ lengthAt s 2 i = omega arith in let e : length s < endAt s 2 i = omega arith in rw (le-leb _ _ l, lt-leb _ _ e) refl
+  pub edges-past : from + w ≤ from + n → length s < from + n → [] ≡ edgesPart f s i
+  unfolding edgesPart
+  edges-past h k = let l : labelSize f ≤ lengthAt s 2 i = omega arith in let m : length s < endAt s 2 i = omega arith in rw (le-leb _ _ l, lt-leb _ _ m) refl
 
 -- the form test where the length is known to reach, or not
-pub form-short : (n : ℕ) → n < 8 → false ≡ nodeFormTest n
-unfolding nodeFormTest
-form-short n h = rw (lt-leb _ _ h) refl
+module _ (f : Layout) (n w : ℕ) (e : w ≡ labelSize f) where
+  pub form-short : n < w → false ≡ nodeFormTest f n
+  unfolding nodeFormTest
+  form-short h = let l : n < labelSize f = omega arith in rw (lt-leb _ _ l) refl
 
-pub form-long : (n : ℕ) → 8 ≤ n → (eqb ((n - 8) % 5) 0 && leb ((n - 8) / 5) 32) ≡ nodeFormTest n
-unfolding nodeFormTest
-form-long n h = rw (le-leb _ _ h) refl
+  pub form-long : w ≤ n → (eqb ((n - w) % 5) 0 && leb ((n - w) / 5) 32) ≡ nodeFormTest f n
+  unfolding nodeFormTest
+  form-long h = let l : labelSize f ≤ n = omega arith in rw (le-leb _ _ l, e) refl

@@ -10,40 +10,54 @@ use lib.Seq.{take-nil, drop-drop, getD-take, getD-drop}
 use Rattle.parts.specs.Numbers.{byteAt, num2}
 use Rattle.parts.specs.Pairs.{offsetAt, lengthAt, endAt, pair-inside}
 use Rattle.labels.specs.Blocks.{block}
-use Rattle.labels.specs.Labels.{num4, labelIn}
+use mathlib.Core.Bool.{Bool, true, false}
+use Rattle.labels.specs.Labels.{num4, num8, labelIn, bytes-wide, bytes-narrow}
+use Rattle.evidence.specs.declared.Layout.{Layout}
 use Rattle.graph.specs.Graphs.{nodeAt, edgesAt}
-use Rattle.evidence.specs.Evidence.{recordCount, HeadOk, recordAt, edgesIn, labelOf, edgesPart, graphIn, node-at, NodeForm, mostEdges}
+use Rattle.evidence.specs.Evidence.{recordCount, HeadOk, labelSize, recordAt, edgesIn, labelOf, edgesPart, graphIn, node-at, NodeForm, mostEdges}
 
 -- ---- a record that has a label and lies in the evidence, read in place
-module _ (s : List ℕ) (i : ℕ) (labelled : 8 ≤ lengthAt s 2 i) (inside : endAt s 2 i ≤ length s) where
+module _ (f : Layout) (s : List ℕ) (i : ℕ) (labelled : labelSize f ≤ lengthAt s 2 i) (inside : endAt s 2 i ≤ length s) where
   drop-take : (a b : ℕ) (l : List ℕ) → drop a (take b l) ≡ take (b - a) (drop a l)
   drop-take zero b l = rw sub-zero refl
   drop-take (suc a) zero l = let z : 0 - suc a ≡ 0 = omega arith in rw z refl
   drop-take (suc a) (suc b) [] = sym (take-nil (suc b - suc a))
   drop-take (suc a) (suc b) (x ∷ l) = let z : suc b - suc a ≡ b - a = omega arith in rw z (drop-take a b l)
 
-  pub edges-part-is : edgesPart s i ≡ drop 8 (recordAt s i)
+  pub edges-part-is : edgesPart f s i ≡ drop (labelSize f) (recordAt s i)
   unfolding edgesPart
-  edges-part-is = rw (le-leb _ _ labelled, le-leb _ _ inside) (sym (drop-take 8 (lengthAt s 2 i) (drop (offsetAt s 2 i) s) ∙ ap (take (lengthAt s 2 i - 8)) (drop-drop 8 (offsetAt s 2 i) s)))
+  edges-part-is = rw (le-leb _ _ labelled, le-leb _ _ inside) (sym (drop-take (labelSize f) (lengthAt s 2 i) (drop (offsetAt s 2 i) s) ∙ ap (take (lengthAt s 2 i - labelSize f)) (drop-drop (labelSize f) (offsetAt s 2 i) s)))
 
-  record-byte : (k : ℕ) → k < 8 → byteAt (recordAt s i) k ≡ byteAt s (offsetAt s 2 i + k)
+  record-byte : (k : ℕ) → k < labelSize f → byteAt (recordAt s i) k ≡ byteAt s (offsetAt s 2 i + k)
   record-byte k h = getD-take (lengthAt s 2 i) (drop (offsetAt s 2 i) s) k 0 (omega arith) ∙ getD-drop (offsetAt s 2 i) s k 0
 
-  record-num2 : (k : ℕ) → k < 7 → num2 (recordAt s i) k ≡ num2 s (offsetAt s 2 i + k)
+  record-num2 : (k : ℕ) → k + 2 ≤ labelSize f → num2 (recordAt s i) k ≡ num2 s (offsetAt s 2 i + k)
   record-num2 k h = let e : offsetAt s 2 i + (k + 1) ≡ offsetAt s 2 i + k + 1 = omega arith in
       ap₂ (λ (a b : ℕ). a * 256 + b) (record-byte k (omega arith)) (record-byte (k + 1) (omega arith) ∙ ap (byteAt s) e)
 
-  pub label-part-is : labelIn (recordAt s i) 0 ≡ labelIn s (offsetAt s 2 i)
-  label-part-is = ap₂ (block 32) (four 0 (omega arith) ∙ ap (num4 s) (add-zero (offsetAt s 2 i))) (four 4 (omega arith))
+  record-num4 : (k : ℕ) → k + 4 ≤ labelSize f → num4 (recordAt s i) k ≡ num4 s (offsetAt s 2 i + k)
+  record-num4 k h = let e : offsetAt s 2 i + (k + 2) ≡ offsetAt s 2 i + k + 2 = omega arith in
+      ap₂ (block 16) (record-num2 k (omega arith)) (record-num2 (k + 2) (omega arith) ∙ ap (num2 s) e)
+
+  record-num8 : (k : ℕ) → k + 8 ≤ labelSize f → num8 (recordAt s i) k ≡ num8 s (offsetAt s 2 i + k)
+  record-num8 k h = let e : offsetAt s 2 i + (k + 4) ≡ offsetAt s 2 i + k + 4 = omega arith in
+      ap₂ (block 32) (record-num4 k (omega arith)) (record-num4 (k + 4) (omega arith) ∙ ap (num4 s) e)
+
+  pub label-part-is : labelIn (f .wide) (recordAt s i) 0 ≡ labelOf f s i
+  unfolding labelOf labelIn
+  label-part-is = go (f .wide) refl
     where
-      four : (k : ℕ) → k < 5 → num4 (recordAt s i) k ≡ num4 s (offsetAt s 2 i + k)
-      four k h = let e : offsetAt s 2 i + (k + 2) ≡ offsetAt s 2 i + k + 2 = omega arith in
-          ap₂ (block 16) (record-num2 k (omega arith)) (record-num2 (k + 2) (omega arith) ∙ ap (num2 s) e)
+      first : 0 + 8 ≤ labelSize f → num8 (recordAt s i) 0 ≡ num8 s (offsetAt s 2 i)
+      first h = record-num8 0 h ∙ ap (num8 s) (add-zero (offsetAt s 2 i))
+
+      go : (b : Bool) → f .wide ≡ b → labelIn b (recordAt s i) 0 ≡ labelIn b s (offsetAt s 2 i)
+      go true e = let z = bytes-wide (f .wide) e in ap₂ (block 64) (first (omega arith)) (record-num8 8 (omega arith))
+      go false e = let z = bytes-narrow (f .wide) e in first (omega arith)
 
 -- a record without a label has nothing behind it
-pub edges-part-none : (s : List ℕ) (i : ℕ) → lengthAt s 2 i < 8 → edgesPart s i ≡ []
+pub edges-part-none : (f : Layout) (s : List ℕ) (i : ℕ) → lengthAt s 2 i < labelSize f → edgesPart f s i ≡ []
 unfolding edgesPart
-edges-part-none s i h = rw (lt-leb 8 (lengthAt s 2 i) h) refl
+edges-part-none f s i h = rw (lt-leb (labelSize f) (lengthAt s 2 i) h) refl
 
 -- ---- all records
 module _ (s : List ℕ) (head : HeadOk s) where
@@ -53,18 +67,18 @@ module _ (s : List ℕ) (head : HeadOk s) where
   pub record-length : (x : ℕ) → x < recordCount s → length (recordAt s x) ≡ lengthAt s 2 x
   record-length x h = length-take (lengthAt s 2 x) (drop (offsetAt s 2 x) s) ∙ (let l = length-drop (offsetAt s 2 x) s in omega (arith, record-inside x h))
 
-  module _ (formed : (x : ℕ) → x < recordCount s → NodeForm (length (recordAt s x))) where
-    labelled : (x : ℕ) → x < recordCount s → 8 ≤ lengthAt s 2 x
+  module _ (f : Layout) (formed : (x : ℕ) → x < recordCount s → NodeForm f (length (recordAt s x))) where
+    labelled : (x : ℕ) → x < recordCount s → labelSize f ≤ lengthAt s 2 x
     labelled x h = omega (arith, formed x h .0, record-length x h)
 
-    pub label-there : (x : ℕ) → x < recordCount s → nodeAt (graphIn s) x .label ≡ labelOf s x
-    label-there x h = ap (λ N. N .label) (node-at s x h) ∙ label-part-is s x (labelled x h) (record-inside x h)
+    pub label-there : (x : ℕ) → x < recordCount s → nodeAt (graphIn f s) x .label ≡ labelOf f s x
+    label-there x h = ap (λ N. N .label) (node-at f s x h) ∙ label-part-is f s x (labelled x h) (record-inside x h)
 
-    pub edges-behind : (x : ℕ) → x < recordCount s → edgesPart s x ≡ drop 8 (recordAt s x)
-    edges-behind x h = edges-part-is s x (labelled x h) (record-inside x h)
+    pub edges-behind : (x : ℕ) → x < recordCount s → edgesPart f s x ≡ drop (labelSize f) (recordAt s x)
+    edges-behind x h = edges-part-is f s x (labelled x h) (record-inside x h)
 
-    pub edges-there : (x : ℕ) → x < recordCount s → edgesAt (graphIn s) x ≡ edgesIn (edgesPart s x)
-    edges-there x h = ap (λ N. N .edges) (node-at s x h) ∙ ap edgesIn (sym (edges-behind x h))
+    pub edges-there : (x : ℕ) → x < recordCount s → edgesAt (graphIn f s) x ≡ edgesIn (edgesPart f s x)
+    edges-there x h = ap (λ N. N .edges) (node-at f s x h) ∙ ap edgesIn (sym (edges-behind x h))
 
-    pub edges-few : (x : ℕ) → x < recordCount s → length (edgesPart s x) / 5 ≤ mostEdges
+    pub edges-few : (x : ℕ) → x < recordCount s → length (edgesPart f s x) / 5 ≤ mostEdges
     edges-few x h = rw (edges-behind x h, length-drop) (formed x h .1 .1)

@@ -1,14 +1,28 @@
 // The head of evidence, and the form of its records.
 ghost use mathlib.Core.Path.{_≡_};
 ghost use mathlib.Core.Option.{none};
+ghost use Prim.Native.Nat.{_/_};
+ghost use lib.ListN.{length};
 ghost use Rattle.logic.specs.Refusals.{unless};
 ghost use Rattle.labels.specs.Labels.{valueOf};
-ghost use Rattle.evidence.specs.Evidence.{headTest, headOf, headRefusal, nodeFormTest, labelOf, edgesPart};
+ghost use Rattle.evidence.specs.Evidence.{headTest, headOf, headRefusal, layoutFor, nodeFormTest, labelOf, edgesPart};
 use labels::Label;
+use labels::is_wide;
+use labels::label_bytes;
 use labels::load;
 use parts::byte;
 use parts::pairs_fill;
 use parts::read2;
+
+// Evidence has at most so many records, and a graph's record so many edges.
+const MOST_RECORDS: u8 = 64;
+
+pub const MOST_EDGES: usize = 32;
+
+// How the records of evidence for a description are stored: with wide labels or not.
+pub struct Layout {
+    pub wide: bool,
+}
 
 // What evidence is, with the number of its records.
 pub enum Head {
@@ -24,7 +38,7 @@ fn head_ok(s: &[u8]) -> bool
     let kind = byte(s, 0);
     let n = byte(s, 1);
     let filled = pairs_fill(s, 2, n, 2 + 4 * (n as u16));
-    ((1 <= kind) & (kind <= 2)) & ((1 <= n) & ((n <= 64) & filled))
+    ((1 <= kind) & (kind <= 2)) & ((1 <= n) & ((n <= MOST_RECORDS) & filled))
 }
 
 pub fn read_head(s: &[u8]) -> Head
@@ -41,36 +55,47 @@ pub fn read_head(s: &[u8]) -> Head
     }
 }
 
-// Test 10 of a graph's record of `n` bytes.
-pub fn node_form_ok(n: usize) -> bool
-    ensures { λ r. ⌜ r ≡ nodeFormTest n ⌝ }
+// How evidence for a description with the concepts `cs` is stored.
+pub fn layout_of(cs: &[u8]) -> Layout
+    ensures { λ r. ⌜ r ≡ layoutFor (length (now (cs .entry)) / 6) ⌝ }
 {
-    if n < 8 {
+    Layout {
+        wide: is_wide(cs.len() / 6),
+    }
+}
+
+// Test 10 of a graph's record of `n` bytes.
+pub fn node_form_ok(n: usize, f: Layout) -> bool
+    ensures { λ r. ⌜ r ≡ nodeFormTest f n ⌝ }
+{
+    let w = label_bytes(f.wide);
+    if n < w {
         false
     } else {
-        ((n - 8) % 5 == 0) & ((n - 8) / 5 <= 32)
+        ((n - w) % 5 == 0) & ((n - w) / 5 <= MOST_EDGES)
     }
 }
 
 // The label of record `i`, read in place.
-pub fn record_label(s: &[u8], i: u8) -> Label
-    ensures { λ r. ⌜ valueOf r ≡ labelOf (now (s .entry)) i ⌝ }
+pub fn record_label(s: &[u8], i: u8, f: Layout) -> Label
+    ensures { λ r. ⌜ valueOf r ≡ labelOf f (now (s .entry)) i ⌝ }
 {
-    load(s, read2(s, 2 + 4 * (i as usize)))
+    load(s, read2(s, 2 + 4 * (i as usize)), f.wide)
 }
 
 // The bytes behind the label of record `i`; none if it has no label or does not lie in the evidence.
-pub fn record_edges(s: &[u8], i: u8) -> &[u8]
-    ensures { λ r. ⌜ now r ≡ edgesPart (now (s .entry)) i ⌝ }
+pub fn record_edges(s: &[u8], i: u8, f: Layout) -> &[u8]
+    ensures { λ r. ⌜ now r ≡ edgesPart f (now (s .entry)) i ⌝ }
 {
+    let w = label_bytes(f.wide);
     let at = 2 + 4 * (i as usize);
     let from = read2(s, at);
     let to = from + read2(s, at + 2);
-    if to < from + 8 {
+    if to < from + w {
         return &s[..0];
     }
     if s.len() < to {
         return &s[..0];
     }
-    &s[from + 8..to]
+    &s[from + w..to]
 }

@@ -108,13 +108,20 @@ fn main() {
     run_file(b"check_lists", Kind::Check);
     run_file(b"check_lists_trials", Kind::Check);
     run_file(b"check_lists_worst", Kind::Check);
+    run_file(b"check_wide", Kind::Check);
+    run_file(b"check_wide_worst", Kind::Check);
     run_file(b"claims", Kind::Claim);
     run_file(b"claims_trials", Kind::Claim);
     run_file(b"claims_worst", Kind::Claim);
+    run_file(b"claims_wide", Kind::Claim);
     run_file(b"write", Kind::Write);
     run_file(b"write_trials", Kind::Write);
     run_file(b"write_worst", Kind::Write);
+    run_file(b"write_wide", Kind::Write);
+    run_file(b"write_wide_worst", Kind::Write);
     run_file(b"read", Kind::Read);
     run_file(b"read_trials", Kind::Read);
     run_file(b"read_worst", Kind::Read);
+    run_file(b"read_wide", Kind::Read);
+    run_file(b"read_wide_worst", Kind::Read);
 }

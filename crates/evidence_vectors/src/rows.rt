@@ -43,7 +43,7 @@ pub(crate) fn claim_row(line: &[u8]) -> Answer {
     let d = literal(field(line, 2, b'\t'));
     let mut first = input_space();
     let m = decode(field(line, 3, b'\t'), &mut first);
-    // A second piece is a graph, of 11,010 bytes at most, or refused by its head.
+    // A second piece is a graph, of 11,522 bytes at most, or refused by its head.
     let mut second = [0; 16384];
     let k = decode(field(line, 4, b'\t'), &mut second);
     of_judgement(check_claim(&description[..n], c, d, &first[..m], &second[..k]))

@@ -10,7 +10,9 @@ ghost use lib.Dec.{leb, ltb};
 ghost use Rattle.logic.specs.Tests.{_⇒_};
 ghost use Rattle.logic.specs.Refusals.{unless, refuse};
 ghost use Rattle.logic.specs.Sets.{has};
-ghost use Rattle.labels.specs.Labels.{valueOf, labelWith};
+ghost use Rattle.labels.specs.Labels.{mostEntries, valueOf, labelWith};
+ghost use Rattle.labels.specs.Words.{meet};
+ghost use Rattle.evidence.specs.Evidence.{labelOf};
 ghost use Rattle.tables.specs.Tables.{fieldsAt};
 ghost use Rattle.answers.specs.Answers.{refusalOf};
 ghost use Rattle.fillers.specs.FillerSteps.{allHave, someHas, allDecide, fillers};
@@ -18,7 +20,12 @@ ghost use Rattle.fillers.specs.FillerSteps.{everyAbove, hasAbove, carrie
 ghost use Rattle.fillers.specs.Gathered.{Gathered, Counted};
 ghost use Rattle.fillers.specs.Sources.{sourcesAbove, sourcesOf, SourcesOf, everyWith, everysWith};
 use answers::Tested;
+use evidence::Layout;
+use evidence::MOST_EDGES;
 use labels::Label;
+use labels::MOST_ENTRIES;
+use labels::empty;
+use labels::entries_of;
 use labels::holds;
 use labels::put;
 use nodes::entry_count;
@@ -31,13 +38,13 @@ use tables::EntryNo;
 use tables::RoleNo;
 use tables::concept_at;
 use tables::fields_at;
+use targets::TABLE;
 use targets::all_decided;
 use targets::all_fillers_have;
 use targets::all_fillers_have_both;
 use targets::count_fillers;
-use targets::meets;
+use targets::gather;
 use targets::some_filler_has;
-use targets::targets_of;
 
 // Whether entry `f` is an "every q l" with `q` in the mask `above`.
 fn is_above(cs: &[u8], above: u16, l: u8, f: EntryNo) -> bool
@@ -50,7 +57,7 @@ fn is_above(cs: &[u8], above: u16, l: u8, f: EntryNo) -> bool
 
 // Whether the label holds entry `f` and that is an "every q l" with `q` in the mask `above`.
 fn has_above_at(cs: &[u8], x: Label, above: u16, l: u8, f: EntryNo) -> bool
-    requires { ⌜ f .0 < 32 ⌝ }
+    requires { ⌜ f .0 < mostEntries ⌝ }
     ensures { λ q. ⌜ q ≡ (has (valueOf x) (2 * f .0) && everyAbove above l (fieldsAt (now (cs .entry)) (f .0))) ⌝ }
 {
     holds(x, 2 * f.0) & is_above(cs, above, l, f)
@@ -85,7 +92,7 @@ pub fn is_carried(rs: &[u8], cs: &[u8], a: [u16; 16], x: Label, r: RoleNo, l: u8
 
 // The label with entry `f`, if that is an "every q l" with `q` in the mask `above`.
 fn with_source(x: Label, cs: &[u8], above: u16, l: u8, f: EntryNo) -> Label
-    requires { ⌜ f .0 < 32 ⌝ }
+    requires { ⌜ f .0 < mostEntries ⌝ }
     ensures { λ q. ⌜ valueOf q ≡ cond (everyAbove above l (fieldsAt (now (cs .entry)) (f .0))) (labelWith (valueOf x) (2 * f .0)) (valueOf x) ⌝ }
 {
     if is_above(cs, above, l, f) {
@@ -100,7 +107,7 @@ fn sources_above(cs: &[u8], above: u16, l: u8) -> Label
     ensures { λ q. ⌜ valueOf q ≡ sourcesAbove (now (cs .entry)) above l ⌝ }
 {
     let n = entry_count(cs);
-    let mut out = Label { high: 0, low: 0 };
+    let mut out = empty();
     let mut f: u8 = 0;
     while f < n {
         out = with_source(out, cs, above, l, EntryNo(f));
@@ -119,38 +126,30 @@ fn sources_at(rs: &[u8], cs: &[u8], a: [u16; 16], e: EntryNo) -> Label
     if (g.kind == 3) & (transitive == 1) {
         sources_above(cs, a[role % 16], g.first)
     } else {
-        Label { high: 0, low: 0 }
+        empty()
     }
 }
 
 // For each entry "every r l" with `r` transitive, the entries whose presence in a label makes the edges of role `r` carry it on.
-pub fn sources(rs: &[u8], cs: &[u8], a: [u16; 16]) -> [Label; 32]
+pub fn sources(rs: &[u8], cs: &[u8], a: [u16; 16]) -> [u64; MOST_ENTRIES as usize]
     ensures { λ q. ⌜ SourcesOf (now (rs .entry)) (now (cs .entry)) a q ⌝ }
 {
     let n = entry_count(cs);
-    let none = Label { high: 0, low: 0 };
-    let mut out = [none; 32];
+    let mut out: [u64; MOST_ENTRIES as usize] = [0; MOST_ENTRIES as usize];
     let mut e: u8 = 0;
     while e < n {
-        out[e as usize] = sources_at(rs, cs, a, EntryNo(e));
+        out[e as usize] = entries_of(sources_at(rs, cs, a, EntryNo(e)));
         e += 1;
     }
     out
 }
 
 // Whether each edge of role `r` leads to a label with `l`, if that is asked.
-fn all_if(
-    asked: bool,
-    masks: &[u32; 32],
-    highs: &[u32; 32],
-    lows: &[u32; 32],
-    r: RoleNo,
-    l: u8,
-) -> bool
-    ensures { λ q. ⌜ ((s es : List ℕ) → Gathered s es (now (masks .entry)) (now (highs .entry)) (now (lows .entry)) → q ≡ (asked ⇒ allHave s es (r .0) l)) ⌝ }
+fn all_if(asked: bool, masks: &[u32; MOST_EDGES], words: &[u32; TABLE], r: RoleNo, l: u8) -> bool
+    ensures { λ q. ⌜ ((num : ℕ → ℕ) (es : List ℕ) → Gathered num es (now (masks .entry)) (now (words .entry)) → q ≡ (asked ⇒ allHave num es (r .0) l)) ⌝ }
 {
     if asked {
-        all_fillers_have(masks, highs, lows, r, l)
+        all_fillers_have(masks, words, r, l)
     } else {
         true
     }
@@ -160,39 +159,28 @@ fn all_if(
 fn both_if(
     held: bool,
     on: bool,
-    masks: &[u32; 32],
-    highs: &[u32; 32],
-    lows: &[u32; 32],
+    masks: &[u32; MOST_EDGES],
+    words: &[u32; TABLE],
     r: RoleNo,
     l: u8,
     m: u8,
 ) -> bool
-    requires { ⌜ m < 64 ⌝ }
-    ensures { λ q. ⌜ ((s es : List ℕ) → Gathered s es (now (masks .entry)) (now (highs .entry)) (now (lows .entry)) → q ≡ ((held ⇒ allHave s es (r .0) l) && (on ⇒ allHave s es (r .0) m))) ⌝ }
+    ensures { λ q. ⌜ ((num : ℕ → ℕ) (es : List ℕ) → Gathered num es (now (masks .entry)) (now (words .entry)) → q ≡ ((held ⇒ allHave num es (r .0) l) && (on ⇒ allHave num es (r .0) m))) ⌝ }
 {
     if held & on {
-        if l < 64 {
-            return all_fillers_have_both(masks, highs, lows, r, l, m);
-        }
+        return all_fillers_have_both(masks, words, r, l, m);
     }
-    let kept = all_if(held, masks, highs, lows, r, l);
-    let passed = all_if(on, masks, highs, lows, r, m);
+    let kept = all_if(held, masks, words, r, l);
+    let passed = all_if(on, masks, words, r, m);
     kept & passed
 }
 
 // Whether some edge of role `r` leads to a label with `l`, if that is asked.
-fn some_if(
-    asked: bool,
-    masks: &[u32; 32],
-    highs: &[u32; 32],
-    lows: &[u32; 32],
-    r: RoleNo,
-    l: u8,
-) -> bool
-    ensures { λ q. ⌜ ((s es : List ℕ) → Gathered s es (now (masks .entry)) (now (highs .entry)) (now (lows .entry)) → q ≡ (asked ⇒ someHas s es (r .0) l)) ⌝ }
+fn some_if(asked: bool, masks: &[u32; MOST_EDGES], words: &[u32; TABLE], r: RoleNo, l: u8) -> bool
+    ensures { λ q. ⌜ ((num : ℕ → ℕ) (es : List ℕ) → Gathered num es (now (masks .entry)) (now (words .entry)) → q ≡ (asked ⇒ someHas num es (r .0) l)) ⌝ }
 {
     if asked {
-        some_filler_has(masks, highs, lows, r, l)
+        some_filler_has(masks, words, r, l)
     } else {
         true
     }
@@ -200,49 +188,38 @@ fn some_if(
 
 // Rule 14 of "every r l", entry `e`; `on` says that the edges of role `r` carry it on.
 fn every_holds(
-    masks: &[u32; 32],
-    highs: &[u32; 32],
-    lows: &[u32; 32],
+    masks: &[u32; MOST_EDGES],
+    words: &[u32; TABLE],
     x: Label,
     on: bool,
     e: EntryNo,
     r: RoleNo,
     l: u8,
 ) -> bool
-    requires { ⌜ e .0 < 32 ⌝ }
-    ensures { λ q. ⌜ ((s es : List ℕ) → Gathered s es (now (masks .entry)) (now (highs .entry)) (now (lows .entry)) → q ≡ everyHolds s es (valueOf x) on (e .0) (r .0) l) ⌝ }
+    requires { ⌜ e .0 < mostEntries ⌝ }
+    ensures { λ q. ⌜ ((num : ℕ → ℕ) (es : List ℕ) → Gathered num es (now (masks .entry)) (now (words .entry)) → q ≡ everyHolds num es (valueOf x) on (e .0) (r .0) l) ⌝ }
 {
-    let kept = both_if(holds(x, 2 * e.0), on, masks, highs, lows, r, l, 2 * e.0);
+    let kept = both_if(holds(x, 2 * e.0), on, masks, words, r, l, 2 * e.0);
     let against = opposite(l);
-    let broken = some_if(holds(x, 2 * e.0 + 1), masks, highs, lows, r, against);
+    let broken = some_if(holds(x, 2 * e.0 + 1), masks, words, r, against);
     kept & broken
 }
 
-// Rule 14 of one entry, whose sources are `from`.
+// Rule 14 of one entry; `on` says that the edges of its role carry it on.
 fn every_at(
     cs: &[u8],
-    from: Label,
+    on: bool,
     x: Label,
-    masks: &[u32; 32],
-    highs: &[u32; 32],
-    lows: &[u32; 32],
+    masks: &[u32; MOST_EDGES],
+    words: &[u32; TABLE],
     e: EntryNo,
 ) -> bool
-    requires { ⌜ e .0 < 32 ⌝ }
-    ensures { λ q. ⌜ ((s es : List ℕ) → Gathered s es (now (masks .entry)) (now (highs .entry)) (now (lows .entry)) → q ≡ everyWith (now (cs .entry)) s (valueOf from) (valueOf x) es (e .0)) ⌝ }
+    requires { ⌜ e .0 < mostEntries ⌝ }
+    ensures { λ q. ⌜ ((num : ℕ → ℕ) (es : List ℕ) → Gathered num es (now (masks .entry)) (now (words .entry)) → q ≡ everyWith (now (cs .entry)) num on (valueOf x) es (e .0)) ⌝ }
 {
     let c = concept_at(cs, e);
     match c {
-        Concept::Every(r, l) => every_holds(
-            masks,
-            highs,
-            lows,
-            x,
-            meets(x.high, x.low, from),
-            e,
-            r,
-            l,
-        ),
+        Concept::Every(r, l) => every_holds(masks, words, x, on, e, r, l),
         Concept::Top => true,
         Concept::Name => true,
         Concept::Both(_, _) => true,
@@ -250,22 +227,29 @@ fn every_at(
     }
 }
 
+// Whether two sets of entries meet.
+fn share_entry(x: u64, y: u64) -> bool
+    ensures { λ q. ⌜ q ≡ meet x y ⌝ }
+{
+    x & y != 0
+}
+
 // Rule 14 of a record with the label `x`, with the table of sources.
 fn everys_ok(
     cs: &[u8],
-    src: [Label; 32],
+    src: &[u64; MOST_ENTRIES as usize],
     x: Label,
-    masks: &[u32; 32],
-    highs: &[u32; 32],
-    lows: &[u32; 32],
+    masks: &[u32; MOST_EDGES],
+    words: &[u32; TABLE],
 ) -> bool
-    ensures { λ q. ⌜ ((s es : List ℕ) → Gathered s es (now (masks .entry)) (now (highs .entry)) (now (lows .entry)) → q ≡ everysWith (now (cs .entry)) s src (valueOf x) es) ⌝ }
+    ensures { λ q. ⌜ ((num : ℕ → ℕ) (es : List ℕ) → Gathered num es (now (masks .entry)) (now (words .entry)) → q ≡ everysWith (now (cs .entry)) num (now (src .entry)) (valueOf x) es) ⌝ }
 {
     let n = entry_count(cs);
+    let own = entries_of(x);
     let mut e: u8 = 0;
     while e < n {
-        let from = src[e as usize];
-        if !every_at(cs, from, x, masks, highs, lows, EntryNo(e)) {
+        let on = share_entry(own, src[e as usize]);
+        if !every_at(cs, on, x, masks, words, EntryNo(e)) {
             return false;
         }
         e += 1;
@@ -276,16 +260,15 @@ fn everys_ok(
 // Whether the fillers reach the number, if that is asked.
 fn reached_if(
     asked: bool,
-    masks: &[u32; 32],
-    counts: &[u16; 32],
-    highs: &[u32; 32],
-    lows: &[u32; 32],
+    masks: &[u32; MOST_EDGES],
+    counts: &[u16; MOST_EDGES],
+    words: &[u32; TABLE],
     m: Count,
 ) -> bool
-    ensures { λ q. ⌜ ((s es : List ℕ) → Gathered s es (now (masks .entry)) (now (highs .entry)) (now (lows .entry)) → Counted es (now (counts .entry)) → q ≡ (asked ⇒ leb (m .bound) (fillers s es (m .role .0) (m .literal)))) ⌝ }
+    ensures { λ q. ⌜ ((num : ℕ → ℕ) (es : List ℕ) → Gathered num es (now (masks .entry)) (now (words .entry)) → Counted es (now (counts .entry)) → q ≡ (asked ⇒ leb (m .bound) (fillers num es (m .role .0) (m .literal)))) ⌝ }
 {
     if asked {
-        m.bound <= count_fillers(masks, counts, highs, lows, m.role, m.literal)
+        m.bound <= count_fillers(masks, counts, words, m.role, m.literal)
     } else {
         true
     }
@@ -294,17 +277,16 @@ fn reached_if(
 // Whether the fillers do not reach the number and each is decided, if that is asked.
 fn missed_if(
     asked: bool,
-    masks: &[u32; 32],
-    counts: &[u16; 32],
-    highs: &[u32; 32],
-    lows: &[u32; 32],
+    masks: &[u32; MOST_EDGES],
+    counts: &[u16; MOST_EDGES],
+    words: &[u32; TABLE],
     m: Count,
 ) -> bool
-    ensures { λ q. ⌜ ((s es : List ℕ) → Gathered s es (now (masks .entry)) (now (highs .entry)) (now (lows .entry)) → Counted es (now (counts .entry)) → q ≡ (asked ⇒ (ltb (fillers s es (m .role .0) (m .literal)) (m .bound) && allDecide s es (m .role .0) (m .literal)))) ⌝ }
+    ensures { λ q. ⌜ ((num : ℕ → ℕ) (es : List ℕ) → Gathered num es (now (masks .entry)) (now (words .entry)) → Counted es (now (counts .entry)) → q ≡ (asked ⇒ (ltb (fillers num es (m .role .0) (m .literal)) (m .bound) && allDecide num es (m .role .0) (m .literal)))) ⌝ }
 {
     if asked {
-        let few = count_fillers(masks, counts, highs, lows, m.role, m.literal) < m.bound;
-        let decided = all_decided(masks, highs, lows, m.role, m.literal);
+        let few = count_fillers(masks, counts, words, m.role, m.literal) < m.bound;
+        let decided = all_decided(masks, words, m.role, m.literal);
         few & decided
     } else {
         true
@@ -313,19 +295,18 @@ fn missed_if(
 
 // Rule 15 of "at least", entry `e`, with what it counts.
 fn least_holds(
-    masks: &[u32; 32],
-    counts: &[u16; 32],
-    highs: &[u32; 32],
-    lows: &[u32; 32],
+    masks: &[u32; MOST_EDGES],
+    counts: &[u16; MOST_EDGES],
+    words: &[u32; TABLE],
     x: Label,
     e: EntryNo,
     m: Count,
 ) -> bool
-    requires { ⌜ e .0 < 32 ⌝ }
-    ensures { λ q. ⌜ ((s es : List ℕ) → Gathered s es (now (masks .entry)) (now (highs .entry)) (now (lows .entry)) → Counted es (now (counts .entry)) → q ≡ leastHolds s es (valueOf x) (e .0) (m .role .0) (m .literal) (m .bound)) ⌝ }
+    requires { ⌜ e .0 < mostEntries ⌝ }
+    ensures { λ q. ⌜ ((num : ℕ → ℕ) (es : List ℕ) → Gathered num es (now (masks .entry)) (now (words .entry)) → Counted es (now (counts .entry)) → q ≡ leastHolds num es (valueOf x) (e .0) (m .role .0) (m .literal) (m .bound)) ⌝ }
 {
-    let reached = reached_if(holds(x, 2 * e.0), masks, counts, highs, lows, m);
-    let missed = missed_if(holds(x, 2 * e.0 + 1), masks, counts, highs, lows, m);
+    let reached = reached_if(holds(x, 2 * e.0), masks, counts, words, m);
+    let missed = missed_if(holds(x, 2 * e.0 + 1), masks, counts, words, m);
     reached & missed
 }
 
@@ -333,18 +314,17 @@ fn least_holds(
 fn least_at(
     cs: &[u8],
     x: Label,
-    masks: &[u32; 32],
-    counts: &[u16; 32],
-    highs: &[u32; 32],
-    lows: &[u32; 32],
+    masks: &[u32; MOST_EDGES],
+    counts: &[u16; MOST_EDGES],
+    words: &[u32; TABLE],
     e: EntryNo,
 ) -> bool
-    requires { ⌜ e .0 < 32 ⌝ }
-    ensures { λ q. ⌜ ((s es : List ℕ) → Gathered s es (now (masks .entry)) (now (highs .entry)) (now (lows .entry)) → Counted es (now (counts .entry)) → q ≡ leastAt (now (cs .entry)) s (valueOf x) es (e .0)) ⌝ }
+    requires { ⌜ e .0 < mostEntries ⌝ }
+    ensures { λ q. ⌜ ((num : ℕ → ℕ) (es : List ℕ) → Gathered num es (now (masks .entry)) (now (words .entry)) → Counted es (now (counts .entry)) → q ≡ leastAt (now (cs .entry)) num (valueOf x) es (e .0)) ⌝ }
 {
     let c = concept_at(cs, e);
     match c {
-        Concept::AtLeast(m) => least_holds(masks, counts, highs, lows, x, e, m),
+        Concept::AtLeast(m) => least_holds(masks, counts, words, x, e, m),
         Concept::Top => true,
         Concept::Name => true,
         Concept::Both(_, _) => true,
@@ -356,17 +336,16 @@ fn least_at(
 fn counts_ok(
     cs: &[u8],
     x: Label,
-    masks: &[u32; 32],
-    counts: &[u16; 32],
-    highs: &[u32; 32],
-    lows: &[u32; 32],
+    masks: &[u32; MOST_EDGES],
+    counts: &[u16; MOST_EDGES],
+    words: &[u32; TABLE],
 ) -> bool
-    ensures { λ q. ⌜ ((s es : List ℕ) → Gathered s es (now (masks .entry)) (now (highs .entry)) (now (lows .entry)) → Counted es (now (counts .entry)) → q ≡ countsCode (now (cs .entry)) s (valueOf x) es) ⌝ }
+    ensures { λ q. ⌜ ((num : ℕ → ℕ) (es : List ℕ) → Gathered num es (now (masks .entry)) (now (words .entry)) → Counted es (now (counts .entry)) → q ≡ countsCode (now (cs .entry)) num (valueOf x) es) ⌝ }
 {
     let n = entry_count(cs);
     let mut e: u8 = 0;
     while e < n {
-        if !least_at(cs, x, masks, counts, highs, lows, EntryNo(e)) {
+        if !least_at(cs, x, masks, counts, words, EntryNo(e)) {
             return false;
         }
         e += 1;
@@ -375,18 +354,25 @@ fn counts_ok(
 }
 
 // Rules 14 and 15 of record `i`, with the label `x` and the edges `es`, in the evidence `s`, with the table of sources.
-pub fn test_fillers(cs: &[u8], src: [Label; 32], s: &[u8], i: u8, x: Label, es: &[u8]) -> Tested
-    ensures { λ r. ⌜ refusalOf r ≡ refuse i (unless (everysWith (now (cs .entry)) (now (s .entry)) src (valueOf x) (now (es .entry))) 14 (unless (countsCode (now (cs .entry)) (now (s .entry)) (valueOf x) (now (es .entry))) 15 none)) none ⌝ }
+pub fn test_fillers(
+    cs: &[u8],
+    src: &[u64; MOST_ENTRIES as usize],
+    s: &[u8],
+    i: u8,
+    x: Label,
+    es: &[u8],
+    f: Layout,
+) -> Tested
+    ensures { λ r. ⌜ refusalOf r ≡ refuse i (unless (everysWith (now (cs .entry)) (labelOf f (now (s .entry))) (now (src .entry)) (valueOf x) (now (es .entry))) 14 (unless (countsCode (now (cs .entry)) (labelOf f (now (s .entry))) (valueOf x) (now (es .entry))) 15 none)) none ⌝ }
 {
-    let t = targets_of(s, es);
-    let masks = t.masks;
-    let highs = t.highs;
-    let lows = t.lows;
-    if !everys_ok(cs, src, x, &masks, &highs, &lows) {
+    let mut masks: [u32; MOST_EDGES] = [0; MOST_EDGES];
+    let mut counts: [u16; MOST_EDGES] = [0; MOST_EDGES];
+    let mut words: [u32; TABLE] = [0; TABLE];
+    gather(s, es, f, &mut masks, &mut counts, &mut words);
+    if !everys_ok(cs, src, x, &masks, &words) {
         return Tested::Refused(14, i);
     }
-    let counts = t.counts;
-    if !counts_ok(cs, x, &masks, &counts, &highs, &lows) {
+    if !counts_ok(cs, x, &masks, &counts, &words) {
         return Tested::Refused(15, i);
     }
     Tested::Fine

@@ -17,6 +17,7 @@ use Rattle.description.specs.Acceptance.{entryTest, descriptionTests}
 use Rattle.graph.specs.Graphs.{total}
 use Rattle.graph.specs.GraphTests.{labelTest, bothTest, edgeTest, everyTest, countTest, nodeRefusal, graphRefusal}
 use Rattle.intake.specs.Intake.{sizesTest, partsTest, bytesTest}
+use Rattle.labels.specs.Labels.{labelBytes, labelIn}
 use Rattle.evidence.specs.Evidence.{headTest, nodeFormTest}
 use Rattle.graph_check.specs.GraphEvidence.{graphTests, graphRefused}
 
@@ -125,6 +126,6 @@ trials =
     ∷ []
 
 trials-hold : map (λ t. graphRefused (t .description) (t .evidence)) trials ≡ map (λ t. t .told) trials
-unfolding trials graphRefused graphTests graphRefusal refuseFrom headTest nodeFormTest nodeRefusal labelTest bothTest edgeTest everyTest countTest total each some? tabulate members nonempty
+unfolding trials graphRefused graphTests graphRefusal refuseFrom headTest nodeFormTest labelBytes labelIn nodeRefusal labelTest bothTest edgeTest everyTest countTest total each some? tabulate members nonempty
     bytesTest partsTest sizesTest fills fillsFrom descriptionTests allBelow anyBelow narrow entryTest literal entryFrom ifBoth ifLeast ifEvery simple ancestor closure has sameEntry
 trials-hold = refl

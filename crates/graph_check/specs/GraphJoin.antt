@@ -19,7 +19,9 @@ use Rattle.tables.specs.Tables.{describe}
 use Rattle.roles.specs.Ancestors.{AncestorsOf}
 use Rattle.intake.specs.Intake.{partsTest, parts-accepted}
 use Rattle.intake.specs.Steps.{tables-are}
-use Rattle.evidence.specs.Evidence.{recordCount, HeadOk, headTest, head↔, recordAt, edgesIn, edgesPart, graphIn, graph-size, edges-size, NodeForm, nodeFormTest, node-form↔, labelOf}
+use Rattle.labels.specs.Labels.{mostEntries}
+use Rattle.evidence.specs.declared.Layout.{Layout}
+use Rattle.evidence.specs.Evidence.{recordCount, layoutOf, mostEdges, HeadOk, headTest, head↔, recordAt, edgesIn, edgesPart, graphIn, graph-size, edges-size, NodeForm, nodeFormTest, node-form↔, labelOf}
 use Rattle.evidence.specs.InPlace.{record-length, label-there, edges-there, edges-few}
 use Rattle.graph.specs.Graphs.{labelAt, nodeAt, edgesAt, wantedAt}
 use Rattle.graph.specs.GraphTests.{storedGraph, labelTest, bothTest, edgeTest, nodeRefusal, nodeForm, graphRefusal}
@@ -31,20 +33,20 @@ use Rattle.graph_check.specs.GraphSteps.{formOf, needOf, nodeCode, recor
 
 -- 11 to 15, of record x
 nodeAtTest : Description → List Literal → List ℕ → ℕ → Option ℕ
-nodeAtTest D W s x = let G = graphIn s in nodeRefusal storedGraph D (length G) (labelAt G) (wantedAt W x) (nodeAt G x .label) (edgesAt G x)
+nodeAtTest D W s x = let G = graphIn (layoutOf D) s in nodeRefusal storedGraph D (length G) (labelAt G) (wantedAt W x) (nodeAt G x .label) (edgesAt G x)
 
 -- records of the form have at most 32 edges, so the graph's own test 10 passes
-rules-on : (D : Description) (W : List Literal) (s : List ℕ) → ((x : ℕ) → x < recordCount s → NodeForm (length (recordAt s x)))
-    → graphRefusal storedGraph D W (graphIn s) ≡ refuseFrom (nodeAtTest D W s) (recordCount s) 0 none
+rules-on : (D : Description) (W : List Literal) (s : List ℕ) → ((x : ℕ) → x < recordCount s → NodeForm (layoutOf D) (length (recordAt s x)))
+    → graphRefusal storedGraph D W (graphIn (layoutOf D) s) ≡ refuseFrom (nodeAtTest D W s) (recordCount s) 0 none
 unfolding graphRefusal nodeAtTest
-rules-on D W s formed = ap (λ m. refuseFrom form m 0 (refuseFrom (nodeAtTest D W s) m 0 none)) (graph-size s)
+rules-on D W s formed = ap (λ m. refuseFrom form m 0 (refuseFrom (nodeAtTest D W s) m 0 none)) (graph-size (layoutOf D) s)
     ∙ records-then form (recordCount s) 0 (refuseFrom (nodeAtTest D W s) (recordCount s) 0 none) (records↔ form (recordCount s) none .1 (few, refl))
   where
     form : ℕ → Option ℕ
-    form x = nodeForm storedGraph (edgesAt (graphIn s) x)
+    form x = nodeForm storedGraph (edgesAt (graphIn (layoutOf D) s) x)
 
     few : (x : ℕ) → x < recordCount s → form x ≡ none
-    few x h = let z : length (edgesAt (graphIn s) x) ≤ 32 = rw (edges-size s x h) (formed x h .1 .1) in rw (le-leb _ _ z) refl
+    few x h = let z : length (edgesAt (graphIn (layoutOf D) s) x) ≤ mostEdges = rw (edges-size (layoutOf D) s x h) (formed x h .1 .1) in rw (le-leb _ _ z) refl
 
 -- what record x is to have
 need-is : (qs : List ℕ) (W : List Literal) (x : ℕ) → needOf (requiredSet qs (literalSet W)) (requiredSet qs 0) x ≡ requiredSet qs (literalSet (wantedAt W x))
@@ -52,48 +54,51 @@ unfolding literalSet
 need-is qs W zero = refl
 need-is qs W (suc x) = rw (ne-eqb (suc x) 0 (λ e. omega arith)) refl
 
-module _ (rs cs qs a : List ℕ) (anc : AncestorsOf rs a) (few : length rs / 3 ≤ 16) (table : length cs / 6 ≤ 32) (acc : Accepted (describe rs cs qs))
+module _ (rs cs qs a : List ℕ) (anc : AncestorsOf rs a) (few : length rs / 3 ≤ 16) (table : length cs / 6 ≤ mostEntries) (acc : Accepted (describe rs cs qs))
     (W : List Literal) (s : List ℕ) (head : HeadOk s) where
   abbrev D : Description
   D = describe rs cs qs
 
+  abbrev f : Layout
+  f = layoutOf D
+
   abbrev n : ℕ
   n = recordCount s
 
-  form-is : (x : ℕ) → x < n → formOf s x ≡ formAt s x
-  form-is x h = ap (λ k. unless (nodeFormTest k) 10 none) (sym (record-length s head x h))
+  form-is : (x : ℕ) → x < n → formOf f s x ≡ formAt f s x
+  form-is x h = ap (λ k. unless (nodeFormTest f k) 10 none) (sym (record-length s head x h))
 
-  module _ (formed : (x : ℕ) → x < n → NodeForm (length (recordAt s x))) where
-    labels : (y : ℕ) → y < n → (l : Literal) → labelAt (graphIn s) y l ≡ members (labelOf s y) l
-    labels y h l = ap (λ N. members N l) (label-there s head formed y h)
+  module _ (formed : (x : ℕ) → x < n → NodeForm f (length (recordAt s x))) where
+    labels : (y : ℕ) → y < n → (l : Literal) → labelAt (graphIn f s) y l ≡ members (labelOf f s y) l
+    labels y h l = ap (λ N. members N l) (label-there s head f formed y h)
 
-    node-is : (x : ℕ) → x < n → recordCode rs cs qs a (literalSet W) s n x ≡ nodeAtTest D W s x
+    node-is : (x : ℕ) → x < n → recordCode rs cs qs a (literalSet W) f s n x ≡ nodeAtTest D W s x
     unfolding nodeCode nodeRefusal nodeAtTest
-    node-is x h = rw (label-there s head formed x h, edges-there s head formed x h, graph-size s) (
+    node-is x h = rw (label-there s head f formed x h, edges-there s head f formed x h, graph-size f s) (
         unless-then _ _ 11 _ _ label (λ _.
         unless-then _ _ 12 _ _ both (λ _.
         unless-then _ _ 13 _ _ edges (λ pass. let p = sym edges ∙ pass in
-        unless-then _ _ 14 _ _ (everys-are rs cs qs s table n (labelAt (graphIn s)) labels (labelOf s x) (edgesPart s x) (edges-few s head formed x h) p a anc few acc) (λ _.
-        unless-then _ _ 15 _ _ (counts-are rs cs qs s table n (labelAt (graphIn s)) labels (labelOf s x) (edgesPart s x) (edges-few s head formed x h) p) (λ _. refl))))))
+        unless-then _ _ 14 _ _ (everys-are rs cs qs (labelOf f s) table n (labelAt (graphIn f s)) labels (labelOf f s x) (edgesPart f s x) (edges-few s head f formed x h) p a anc few acc) (λ _.
+        unless-then _ _ 15 _ _ (counts-are rs cs qs (labelOf f s) table n (labelAt (graphIn f s)) labels (labelOf f s x) (edgesPart f s x) (edges-few s head f formed x h) p) (λ _. refl))))))
       where
-        label : labelCode (entryCount cs) (labelOf s x) (needOf (requiredSet qs (literalSet W)) (requiredSet qs 0) x) ≡ labelTest D (wantedAt W x) (labelOf s x)
-        label = ap₂ (λ k K. labelCode k (labelOf s x) K) (up-to-all 32 (length cs / 6) table) (need-is qs W x)
-            ∙ label-is rs cs qs table (acc .rules-in) (wantedAt W x) (labelOf s x)
+        label : labelCode (entryCount cs) (labelOf f s x) (needOf (requiredSet qs (literalSet W)) (requiredSet qs 0) x) ≡ labelTest D (wantedAt W x) (labelOf f s x)
+        label = ap₂ (λ k K. labelCode k (labelOf f s x) K) (up-to-all mostEntries (length cs / 6) table) (need-is qs W x)
+            ∙ label-is rs cs qs table (acc .rules-in) (wantedAt W x) (labelOf f s x)
 
-        both : allBelow (entryCount cs) (bothAt cs (labelOf s x)) ≡ bothTest D (members (labelOf s x))
-        both = ap (λ k. allBelow k (bothAt cs (labelOf s x))) (up-to-all 32 (length cs / 6) table) ∙ both-is rs cs qs (labelOf s x)
+        both : allBelow (entryCount cs) (bothAt cs (labelOf f s x)) ≡ bothTest D (members (labelOf f s x))
+        both = ap (λ k. allBelow k (bothAt cs (labelOf f s x))) (up-to-all mostEntries (length cs / 6) table) ∙ both-is rs cs qs (labelOf f s x)
 
-        edges : edgesCode a (upTo 16 (length rs / 3)) n (edgesPart s x) ≡ each (edgesIn (edgesPart s x)) (edgeTest storedGraph D n)
-        edges = ap (λ k. edgesCode a k n (edgesPart s x)) (up-to-all 16 (length rs / 3) few)
-            ∙ edges-are rs cs qs a anc few (λ r q. anc-in D (acc .parents-in) r q) n (edgesPart s x) (edges-few s head formed x h)
+        edges : edgesCode a (upTo 16 (length rs / 3)) n (edgesPart f s x) ≡ each (edgesIn (edgesPart f s x)) (edgeTest storedGraph D n)
+        edges = ap (λ k. edgesCode a k n (edgesPart f s x)) (up-to-all 16 (length rs / 3) few)
+            ∙ edges-are rs cs qs a anc few (λ r q. anc-in D (acc .parents-in) r q) n (edgesPart f s x) (edges-few s head f formed x h)
 
-    records-are : refuseFrom (recordCode rs cs qs a (literalSet W) s n) n 0 none ≡ graphRefusal storedGraph D W (graphIn s)
-    records-are = records-cong (recordCode rs cs qs a (literalSet W) s n) (nodeAtTest D W s) n 0 none (λ x _ h. node-is x (omega arith)) ∙ sym (rules-on D W s formed)
+    records-are : refuseFrom (recordCode rs cs qs a (literalSet W) f s n) n 0 none ≡ graphRefusal storedGraph D W (graphIn f s)
+    records-are = records-cong (recordCode rs cs qs a (literalSet W) f s n) (nodeAtTest D W s) n 0 none (λ x _ h. node-is x (omega arith)) ∙ sym (rules-on D W s formed)
 
-  forms-are : recordsCode rs cs qs a (literalSet W) s n ≡ refuseFrom (formAt s) n 0 (graphRefusal storedGraph D W (graphIn s))
+  forms-are : recordsCode rs cs qs a (literalSet W) s n ≡ refuseFrom (formAt f s) n 0 (graphRefusal storedGraph D W (graphIn f s))
   unfolding recordsCode
-  forms-are = records-cong (formOf s) (formAt s) n 0 _ (λ x _ h. form-is x (omega arith))
-      ∙ records-later (formAt s) n 0 _ _ (λ pass. records-are (λ x h. node-form↔ _ .0 (unless↔ _ 10 none .0 (pass x (omega arith) (omega arith)) .0)))
+  forms-are = records-cong (formOf f s) (formAt f s) n 0 _ (λ x _ h. form-is x (omega arith))
+      ∙ records-later (formAt f s) n 0 _ _ (λ pass. records-are (λ x h. node-form↔ f _ .0 (unless↔ _ 10 none .0 (pass x (omega arith) (omega arith)) .0)))
 
 -- 9 to 15, for accepted parts
 pub graph-is : (rs cs qs a : List ℕ) (W : List Literal) (s : List ℕ) → AncestorsOf rs a → partsTest rs cs qs ≡ none

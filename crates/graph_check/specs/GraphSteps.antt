@@ -11,10 +11,10 @@ use Rattle.logic.specs.Refusals.{Refusal, unless, refuse, refuseFrom, records-t
 use Rattle.logic.specs.Bounded.{allBelow}
 use Rattle.parts.specs.Numbers.{upTo}
 use Rattle.parts.specs.Pairs.{lengthAt}
-use Rattle.evidence.specs.Evidence.{recordCount, edgesPart, nodeFormTest, labelOf}
+use Rattle.evidence.specs.declared.Layout.{Layout}
+use Rattle.evidence.specs.Evidence.{recordCount, layoutFor, edgesPart, nodeFormTest, labelOf}
 use Rattle.nodes.specs.NodeSteps.{entryCount, labelCode, requiredSet, rootSet, bothAt}
 use Rattle.edges.specs.EdgeSteps.{edgesCode}
-use Rattle.labels.specs.declared.Label.{Label}
 use Rattle.fillers.specs.FillerSteps.{everysCode, countsCode}
 use Rattle.fillers.specs.Sources.{SourcesOf, everysWith, everys-with}
 use Rattle.answers.specs.declared.Tested.the-variants.{Refused}
@@ -23,38 +23,41 @@ use Rattle.intake.specs.Steps.{tablesTest}
 use Rattle.graph_check.specs.GraphEvidence.{graphHead}
 
 -- 10, of record i, by the length that its pair gives
-abbrev pub formCode : List ℕ → ℕ → Bool
-formCode s i = nodeFormTest (lengthAt s 2 i)
+abbrev pub formCode : Layout → List ℕ → ℕ → Bool
+formCode f s i = nodeFormTest f (lengthAt s 2 i)
 
-abbrev pub formOf : List ℕ → ℕ → Option ℕ
-formOf s i = unless (formCode s i) 10 none
+abbrev pub formOf : Layout → List ℕ → ℕ → Option ℕ
+formOf f s i = unless (formCode f s i) 10 none
 
 -- one of two sets: of record 0, and of the others
 abbrev pub needOf : ℕ → ℕ → ℕ → ℕ
 needOf first later i = cond (eqb i 0) first later
 
--- 11 to 15, of a record with label N and edges es, which is to have the set K, in a graph of n records
-unfoldable pub nodeCode : List ℕ → List ℕ → List ℕ → ℕ → List ℕ → ℕ → ℕ → List ℕ → Option ℕ
-nodeCode rs cs a K s n N es =
+-- 11 to 15, of a record with label N and edges es, which is to have the set K, in a graph of n records; num y is the label of record y
+unfoldable pub nodeCode : List ℕ → List ℕ → List ℕ → ℕ → (ℕ → ℕ) → ℕ → ℕ → List ℕ → Option ℕ
+nodeCode rs cs a K num n N es =
     unless (labelCode (entryCount cs) N K) 11
     (unless (allBelow (entryCount cs) (bothAt cs N)) 12
     (unless (edgesCode a (upTo 16 (length rs / 3)) n es) 13
-    (unless (everysCode rs cs s a N es) 14
-    (unless (countsCode cs s N es) 15 none))))
+    (unless (everysCode rs cs num a N es) 14
+    (unless (countsCode cs num N es) 15 none))))
 
-abbrev pub recordNeeds : List ℕ → List ℕ → List ℕ → ℕ → List ℕ → ℕ → ℕ → Option ℕ
-recordNeeds rs cs a K s n i = nodeCode rs cs a K s n (labelOf s i) (edgesPart s i)
+abbrev pub recordNeeds : List ℕ → List ℕ → List ℕ → ℕ → Layout → List ℕ → ℕ → ℕ → Option ℕ
+recordNeeds rs cs a K f s n i = nodeCode rs cs a K (labelOf f s) n (labelOf f s i) (edgesPart f s i)
 
 -- record 0 is to have one set, the others another; so where the set M is wanted of record 0
-abbrev pub recordFor : List ℕ → List ℕ → List ℕ → ℕ → ℕ → List ℕ → ℕ → ℕ → Option ℕ
-recordFor rs cs a first later s n i = recordNeeds rs cs a (needOf first later i) s n i
+abbrev pub recordFor : List ℕ → List ℕ → List ℕ → ℕ → ℕ → Layout → List ℕ → ℕ → ℕ → Option ℕ
+recordFor rs cs a first later f s n i = recordNeeds rs cs a (needOf first later i) f s n i
 
-abbrev pub recordCode : List ℕ → List ℕ → List ℕ → List ℕ → ℕ → List ℕ → ℕ → ℕ → Option ℕ
-recordCode rs cs qs a M s n i = recordFor rs cs a (requiredSet qs M) (requiredSet qs 0) s n i
+abbrev pub recordCode : List ℕ → List ℕ → List ℕ → List ℕ → ℕ → Layout → List ℕ → ℕ → ℕ → Option ℕ
+recordCode rs cs qs a M f s n i = recordFor rs cs a (requiredSet qs M) (requiredSet qs 0) f s n i
 
--- 10 to 15
+-- 10 to 15, of evidence stored as for the part cs
+abbrev pub layoutIn : List ℕ → Layout
+layoutIn cs = layoutFor (length cs / 6)
+
 unfoldable pub recordsCode : List ℕ → List ℕ → List ℕ → List ℕ → ℕ → List ℕ → ℕ → Option Refusal
-recordsCode rs cs qs a M s n = refuseFrom (formOf s) n 0 (refuseFrom (recordCode rs cs qs a M s n) n 0 none)
+recordsCode rs cs qs a M s n = refuseFrom (formOf (layoutIn cs) s) n 0 (refuseFrom (recordCode rs cs qs a M (layoutIn cs) s n) n 0 none)
 
 -- 9 to 15
 unfoldable pub graphCode : List ℕ → List ℕ → List ℕ → List ℕ → ℕ → List ℕ → Option Refusal
@@ -71,9 +74,9 @@ need-first first later i e = rw e refl
 pub need-later : (first later i : ℕ) → (i ≡ 0 → ⊥) → later ≡ needOf first later i
 need-later first later i e = rw (ne-eqb i 0 e) refl
 
-module _ (rs cs a : List ℕ) (K : ℕ) (s : List ℕ) (n i N : ℕ) (es : List ℕ) where
+module _ (rs cs a : List ℕ) (K : ℕ) (num : ℕ → ℕ) (n i N : ℕ) (es : List ℕ) where
   abbrev node : Option Refusal
-  node = refuse i (nodeCode rs cs a K s n N es) none
+  node = refuse i (nodeCode rs cs a K num n N es) none
 
   pub stops-11 : labelCode (entryCount cs) N K ≡ false → refusalOf (Refused 11 i) ≡ node
   unfolding nodeCode
@@ -89,25 +92,25 @@ module _ (rs cs a : List ℕ) (K : ℕ) (s : List ℕ) (n i N : ℕ) (es : List 
   stops-13 p q e = rw (p, q, e) refl
 
   -- 14 with the table of sources
-  pub goes-on : (src : List Label) → SourcesOf rs cs a src → labelCode (entryCount cs) N K ≡ true → allBelow (entryCount cs) (bothAt cs N) ≡ true
-      → edgesCode a (upTo 16 (length rs / 3)) n es ≡ true → refuse i (unless (everysWith cs s src N es) 14 (unless (countsCode cs s N es) 15 none)) none ≡ node
+  pub goes-on : (src : List ℕ) → SourcesOf rs cs a src → labelCode (entryCount cs) N K ≡ true → allBelow (entryCount cs) (bothAt cs N) ≡ true
+      → edgesCode a (upTo 16 (length rs / 3)) n es ≡ true → refuse i (unless (everysWith cs num src N es) 14 (unless (countsCode cs num N es) 15 none)) none ≡ node
   unfolding nodeCode
-  goes-on src T p q r = rw (everys-with rs cs a N s es src T, p, q, r) refl
+  goes-on src T p q r = rw (everys-with rs cs a N num es src T, p, q, r) refl
 
 -- the record's label and edges, as they are read
-pub record-read : (rs cs a : List ℕ) (K : ℕ) (s : List ℕ) (n i N : ℕ) (es : List ℕ) → N ≡ labelOf s i → es ≡ edgesPart s i
-    → refuse i (nodeCode rs cs a K s n N es) none ≡ refuse i (recordNeeds rs cs a K s n i) none
-record-read rs cs a K s n i N es p q = rw (p, q) refl
+pub record-read : (rs cs a : List ℕ) (K : ℕ) (f : Layout) (s : List ℕ) (n i N : ℕ) (es : List ℕ) → N ≡ labelOf f s i → es ≡ edgesPart f s i
+    → refuse i (nodeCode rs cs a K (labelOf f s) n N es) none ≡ refuse i (recordNeeds rs cs a K f s n i) none
+record-read rs cs a K f s n i N es p q = rw (p, q) refl
 
--- 10, then 11 to 15
-module _ (rs cs qs a : List ℕ) (M : ℕ) (s : List ℕ) (n : ℕ) where
-  pub forms-stop : (z : Refusal) → refuseFrom (formOf s) n 0 none ≡ some z → some z ≡ recordsCode rs cs qs a M s n
+-- 10, then 11 to 15, of evidence stored as f says
+module _ (rs cs qs a : List ℕ) (M : ℕ) (s : List ℕ) (n : ℕ) (f : Layout) (e : f ≡ layoutIn cs) where
+  pub forms-stop : (z : Refusal) → refuseFrom (formOf f s) n 0 none ≡ some z → some z ≡ recordsCode rs cs qs a M s n
   unfolding recordsCode
-  forms-stop z e = sym (records-refused (formOf s) n 0 (refuseFrom (recordCode rs cs qs a M s n) n 0 none) z e)
+  forms-stop z q = rw (← e) (sym (records-refused (formOf f s) n 0 (refuseFrom (recordCode rs cs qs a M f s n) n 0 none) z q))
 
-  pub forms-on : refuseFrom (formOf s) n 0 none ≡ none → refuseFrom (recordCode rs cs qs a M s n) n 0 none ≡ recordsCode rs cs qs a M s n
+  pub forms-on : refuseFrom (formOf f s) n 0 none ≡ none → refuseFrom (recordCode rs cs qs a M f s n) n 0 none ≡ recordsCode rs cs qs a M s n
   unfolding recordsCode
-  forms-on e = sym (records-then (formOf s) n 0 (refuseFrom (recordCode rs cs qs a M s n) n 0 none) e)
+  forms-on q = rw (← e) (sym (records-then (formOf f s) n 0 (refuseFrom (recordCode rs cs qs a M f s n) n 0 none) q))
 
 -- 9, then those
 module _ (rs cs qs a : List ℕ) (M : ℕ) (s : List ℕ) where

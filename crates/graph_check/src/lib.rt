@@ -4,11 +4,14 @@ ghost use mathlib.Core.Option.{none};
 ghost use Rattle.logic.specs.Refusals.{refuse, refuseFrom};
 ghost use Rattle.labels.specs.Labels.{valueOf};
 ghost use Rattle.answers.specs.Answers.{refusalOf};
+ghost use Rattle.evidence.specs.Evidence.{labelOf};
 ghost use Rattle.fillers.specs.Sources.{SourcesOf};
 ghost use Rattle.graph_check.specs.GraphSteps.{formCode, formOf, needOf, nodeCode, recordNeeds, recordCode, recordsCode, graphCode, tablesCode};
 use answers::Tested;
 use edges::edges_ok;
 use evidence::Head;
+use evidence::Layout;
+use evidence::layout_of;
 use evidence::node_form_ok;
 use evidence::read_head;
 use evidence::record_edges;
@@ -17,6 +20,8 @@ use fillers::sources;
 use fillers::test_fillers;
 use intake::test_tables;
 use labels::Label;
+use labels::MOST_ENTRIES;
+use labels::empty;
 use nodes::boths_ok;
 use nodes::label_ok;
 use nodes::required;
@@ -24,19 +29,19 @@ use nodes::root_set;
 use parts::read2;
 
 // Test 10 of record `i`.
-fn form_ok(s: &[u8], i: u8) -> bool
-    ensures { λ r. ⌜ r ≡ formCode (now (s .entry)) i ⌝ }
+fn form_ok(s: &[u8], i: u8, f: Layout) -> bool
+    ensures { λ r. ⌜ r ≡ formCode f (now (s .entry)) i ⌝ }
 {
-    node_form_ok(read2(s, 2 + 4 * (i as usize) + 2))
+    node_form_ok(read2(s, 2 + 4 * (i as usize) + 2), f)
 }
 
 // Test 10 of the `n` records.
-fn test_forms(s: &[u8], n: u8) -> Tested
-    ensures { λ r. ⌜ refusalOf r ≡ refuseFrom (formOf (now (s .entry))) n 0 none ⌝ }
+fn test_forms(s: &[u8], n: u8, f: Layout) -> Tested
+    ensures { λ r. ⌜ refusalOf r ≡ refuseFrom (formOf f (now (s .entry))) n 0 none ⌝ }
 {
     let mut i: u8 = 0;
     while i < n {
-        if !form_ok(s, i) {
+        if !form_ok(s, i, f) {
             return Tested::Refused(10, i);
         }
         i += 1;
@@ -57,16 +62,17 @@ fn test_node(
     rs: &[u8],
     cs: &[u8],
     a: [u16; 16],
-    src: [Label; 32],
+    src: &[u64; MOST_ENTRIES as usize],
     need: Label,
     s: &[u8],
     n: u8,
     i: u8,
     x: Label,
     es: &[u8],
+    f: Layout,
 ) -> Tested
-    requires { ⌜ SourcesOf (now rs) (now cs) a src ⌝ }
-    ensures { λ r. ⌜ refusalOf r ≡ refuse i (nodeCode (now (rs .entry)) (now (cs .entry)) a (valueOf need) (now (s .entry)) n (valueOf x) (now (es .entry))) none ⌝ }
+    requires { ⌜ SourcesOf (now rs) (now cs) a (now src) ⌝ }
+    ensures { λ r. ⌜ refusalOf r ≡ refuse i (nodeCode (now (rs .entry)) (now (cs .entry)) a (valueOf need) (labelOf f (now (s .entry))) n (valueOf x) (now (es .entry))) none ⌝ }
 {
     if !label_ok(cs, x, need) {
         return Tested::Refused(11, i);
@@ -77,7 +83,7 @@ fn test_node(
     if !edges_ok(es, a, rs.len() / 3, n) {
         return Tested::Refused(13, i);
     }
-    test_fillers(cs, src, s, i, x, es)
+    test_fillers(cs, src, s, i, x, es, f)
 }
 
 // The same, with the record read.
@@ -85,14 +91,15 @@ fn test_record(
     rs: &[u8],
     cs: &[u8],
     a: [u16; 16],
-    src: [Label; 32],
+    src: &[u64; MOST_ENTRIES as usize],
     need: Label,
     s: &[u8],
     n: u8,
     i: u8,
+    f: Layout,
 ) -> Tested
-    requires { ⌜ SourcesOf (now rs) (now cs) a src ⌝ }
-    ensures { λ r. ⌜ refusalOf r ≡ refuse i (recordNeeds (now (rs .entry)) (now (cs .entry)) a (valueOf need) (now (s .entry)) n i) none ⌝ }
+    requires { ⌜ SourcesOf (now rs) (now cs) a (now src) ⌝ }
+    ensures { λ r. ⌜ refusalOf r ≡ refuse i (recordNeeds (now (rs .entry)) (now (cs .entry)) a (valueOf need) f (now (s .entry)) n i) none ⌝ }
 {
     test_node(
         rs,
@@ -103,8 +110,9 @@ fn test_record(
         s,
         n,
         i,
-        record_label(s, i),
-        record_edges(s, i),
+        record_label(s, i, f),
+        record_edges(s, i, f),
+        f,
     )
 }
 
@@ -117,15 +125,16 @@ fn test_records(
     want: Label,
     s: &[u8],
     n: u8,
+    f: Layout,
 ) -> Tested
-    ensures { λ r. ⌜ refusalOf r ≡ refuseFrom (recordCode (now (rs .entry)) (now (cs .entry)) (now (qs .entry)) a (valueOf want) (now (s .entry)) n) n 0 none ⌝ }
+    ensures { λ r. ⌜ refusalOf r ≡ refuseFrom (recordCode (now (rs .entry)) (now (cs .entry)) (now (qs .entry)) a (valueOf want) f (now (s .entry)) n) n 0 none ⌝ }
 {
     let src = sources(rs, cs, a);
     let first = required(qs, want);
-    let later = required(qs, Label { high: 0, low: 0 });
+    let later = required(qs, empty());
     let mut i: u8 = 0;
     while i < n {
-        let t = test_record(rs, cs, a, src, need_of(first, later, i), s, n, i);
+        let t = test_record(rs, cs, a, &src, need_of(first, later, i), s, n, i, f);
         let Tested::Fine = t else {
             return t;
         };
@@ -138,11 +147,12 @@ fn test_records(
 fn test_all(rs: &[u8], cs: &[u8], qs: &[u8], a: [u16; 16], want: Label, s: &[u8], n: u8) -> Tested
     ensures { λ r. ⌜ refusalOf r ≡ recordsCode (now (rs .entry)) (now (cs .entry)) (now (qs .entry)) a (valueOf want) (now (s .entry)) n ⌝ }
 {
-    let t = test_forms(s, n);
+    let f = layout_of(cs);
+    let t = test_forms(s, n, f);
     let Tested::Fine = t else {
         return t;
     };
-    test_records(rs, cs, qs, a, want, s, n)
+    test_records(rs, cs, qs, a, want, s, n, f)
 }
 
 // Tests 9 to 15 of the graph `s`, whose record 0 is to have `want`, if `a` holds the ancestors of each role.

@@ -71,11 +71,13 @@ trials =
     ∷ parts (role 0 0) top [] (some 2)
     ∷ parts (0 ∷ 0 ∷ []) top (0 ∷ []) (some 2)
     ∷ parts (role 0 0) (0 ∷ top) (0 ∷ []) (some 2)
-    -- 2: 16 and 17 roles, 32 and 33 entries, 16 and 17 rules
+    -- 2: 16 and 17 roles, 32, 33, 64 and 65 entries, 16 and 17 rules
     ∷ parts (times 16 (role 0 0)) top (0 ∷ []) none
     ∷ parts (times 17 (role 0 0)) top (0 ∷ []) (some 2)
     ∷ parts (role 0 0) (top ++ times 31 name) (0 ∷ []) none
-    ∷ parts (role 0 0) (top ++ times 32 name) (0 ∷ []) (some 2)
+    ∷ parts (role 0 0) (top ++ times 32 name) (0 ∷ []) none
+    ∷ parts (role 0 0) (top ++ times 63 name) (0 ∷ []) none
+    ∷ parts (role 0 0) (top ++ times 64 name) (0 ∷ []) (some 2)
     ∷ parts (role 0 0) top (times 17 (0 ∷ [])) none
     ∷ parts (role 0 0) top (times 18 (0 ∷ [])) (some 2)
     -- 3: the transitive byte, and a parent in the low byte and in the high one

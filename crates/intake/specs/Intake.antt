@@ -15,6 +15,7 @@ use Rattle.parts.specs.Pairs.{partAt, fills, Fills, fills↔}
 use Rattle.description.specs.Descriptions.{Description, fieldsOf, entryOfFields, sameFields, sameFields↔}
 use Rattle.description.specs.Acceptance.{Accepted, descriptionTests, formed↔}
 use Rattle.tables.specs.Tables.{fieldsAt, describe}
+use Rattle.labels.specs.Labels.{mostEntries}
 use Rattle.answers.specs.declared.Tested.{Tested}
 use Rattle.answers.specs.declared.Tested.the-variants.{Fine}
 use Rattle.answers.specs.Answers.{refusalOf, wholly, fine↔}
@@ -40,9 +41,6 @@ described d = describe (rolesPart d) (conceptsPart d) (queryPart d)
 -- ---- 2: the parts
 abbrev pub mostRoles : ℕ
 mostRoles = 16
-
-abbrev pub mostEntries : ℕ
-mostEntries = 32
 
 abbrev pub mostRules : ℕ
 mostRules = 16

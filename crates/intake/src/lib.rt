@@ -11,10 +11,12 @@ ghost use Rattle.parts.specs.Numbers.{byteAt, num2};
 ghost use Rattle.description.specs.Literals.{literal};
 ghost use Rattle.description.specs.Descriptions.{every, entryOfFields, sameEntry};
 ghost use Rattle.tables.specs.Tables.{fieldsAt, fieldsTest};
+ghost use Rattle.labels.specs.Labels.{mostEntries};
 ghost use Rattle.answers.specs.Answers.{refusalOf, wholly};
 ghost use Rattle.intake.specs.Intake.{directoryTest, sizesTest, partsTest, bytesTest};
 ghost use Rattle.intake.specs.Steps.{laterTest, stepsTest, tablesTest, roleAt, simpleAt, twinAt, everyThere, everyBelowAt, everyAt};
 use answers::Tested;
+use labels::MOST_ENTRIES;
 use parts::byte;
 use parts::mask2;
 use parts::pairs_fill;
@@ -50,7 +52,8 @@ fn sizes_ok(rs: &[u8], cs: &[u8], qs: &[u8]) -> bool
     ensures { λ r. ⌜ r ≡ sizesTest (now (rs .entry)) (now (cs .entry)) (now (qs .entry)) ⌝ }
 {
     let asked = qs.len();
-    records_ok(rs.len(), 3, 48) & (records_ok(cs.len(), 6, 192) & ((1 <= asked) & (asked <= 17)))
+    records_ok(rs.len(), 3, 48)
+        & (records_ok(cs.len(), 6, 6 * (MOST_ENTRIES as usize)) & ((1 <= asked) & (asked <= 17)))
 }
 
 // Test 3 of one role, in a table of `n` roles.
@@ -80,7 +83,7 @@ fn roles_ok(rs: &[u8]) -> bool
 
 // Test 4, in a table of `roles` roles.
 fn entries_ok(cs: &[u8], roles: usize) -> bool
-    requires { ⌜ length (now cs) / 6 ≤ 32 ⌝ }
+    requires { ⌜ length (now cs) / 6 ≤ mostEntries ⌝ }
     ensures { λ r. ⌜ r ≡ allBelow (length (now (cs .entry)) / 6) (λ e. fieldsTest roles e (fieldsAt (now (cs .entry)) e)) ⌝ }
 {
     let n = cs.len() / 6;
@@ -113,7 +116,7 @@ fn simple_ok(cs: &[u8], e: EntryNo, complex: u16) -> bool
 
 // Test 5.
 fn simples_ok(cs: &[u8], complex: u16) -> bool
-    requires { ⌜ length (now cs) / 6 ≤ 32 ⌝ }
+    requires { ⌜ length (now cs) / 6 ≤ mostEntries ⌝ }
     ensures { λ r. ⌜ r ≡ allBelow (length (now (cs .entry)) / 6) (simpleAt (now (cs .entry)) complex) ⌝ }
 {
     let n = cs.len() / 6;
@@ -156,7 +159,7 @@ fn distinct_ok(cs: &[u8], f: EntryNo) -> bool
 
 // Test 6.
 fn distincts_ok(cs: &[u8]) -> bool
-    requires { ⌜ length (now cs) / 6 ≤ 32 ⌝ }
+    requires { ⌜ length (now cs) / 6 ≤ mostEntries ⌝ }
     ensures { λ r. ⌜ r ≡ allBelow (length (now (cs .entry)) / 6) (λ f. allBelow f (λ e. not (twinAt (now (cs .entry)) f e))) ⌝ }
 {
     let n = cs.len() / 6;
@@ -180,7 +183,7 @@ fn is_every(cs: &[u8], f: EntryNo, t: RoleNo, l: u8) -> bool
 
 // Whether some entry, earlier or later, is "every T l".
 fn every_there(cs: &[u8], t: RoleNo, l: u8) -> bool
-    requires { ⌜ length (now cs) / 6 ≤ 32 ⌝ }
+    requires { ⌜ length (now cs) / 6 ≤ mostEntries ⌝ }
     ensures { λ r. ⌜ r ≡ everyThere (now (cs .entry)) (t .0) l ⌝ }
 {
     let n = cs.len() / 6;
@@ -203,7 +206,7 @@ fn transitive(rs: &[u8], t: RoleNo) -> bool
 
 // Test 7 of "every R l" for the role `t`, whose ancestors are `anc`.
 fn below_ok(rs: &[u8], cs: &[u8], anc: u16, r: RoleNo, l: u8, t: RoleNo) -> bool
-    requires { ⌜ length (now cs) / 6 ≤ 32 ⌝ }
+    requires { ⌜ length (now cs) / 6 ≤ mostEntries ⌝ }
     ensures { λ q. ⌜ q ≡ (eqb (byteAt (now (rs .entry)) (3 * t .0)) 1 ⇒ (has anc (r .0) ⇒ everyThere (now (cs .entry)) (t .0) l)) ⌝ }
 {
     if transitive(rs, t) & has16(anc, r.0) {
@@ -215,7 +218,7 @@ fn below_ok(rs: &[u8], cs: &[u8], anc: u16, r: RoleNo, l: u8, t: RoleNo) -> bool
 
 // Test 7 of "every R l" for all roles; `a` holds the ancestors of each.
 fn every_ok(rs: &[u8], cs: &[u8], a: [u16; 16], r: RoleNo, l: u8) -> bool
-    requires { ⌜ (length (now rs) / 3 ≤ 16) × (length (now cs) / 6 ≤ 32) ⌝ }
+    requires { ⌜ (length (now rs) / 3 ≤ 16) × (length (now cs) / 6 ≤ mostEntries) ⌝ }
     ensures { λ q. ⌜ q ≡ allBelow (length (now (rs .entry)) / 3) (everyBelowAt (now (rs .entry)) (now (cs .entry)) a (r .0) l) ⌝ }
 {
     let n = rs.len() / 3;
@@ -231,7 +234,7 @@ fn every_ok(rs: &[u8], cs: &[u8], a: [u16; 16], r: RoleNo, l: u8) -> bool
 
 // Test 7 of one entry.
 fn every_at(rs: &[u8], cs: &[u8], a: [u16; 16], e: EntryNo) -> bool
-    requires { ⌜ (length (now rs) / 3 ≤ 16) × (length (now cs) / 6 ≤ 32) ⌝ }
+    requires { ⌜ (length (now rs) / 3 ≤ 16) × (length (now cs) / 6 ≤ mostEntries) ⌝ }
     ensures { λ q. ⌜ q ≡ everyAt (now (rs .entry)) (now (cs .entry)) a (e .0) ⌝ }
 {
     let c = concept_at(cs, e);
@@ -246,7 +249,7 @@ fn every_at(rs: &[u8], cs: &[u8], a: [u16; 16], e: EntryNo) -> bool
 
 // Test 7.
 fn everys_ok(rs: &[u8], cs: &[u8], a: [u16; 16]) -> bool
-    requires { ⌜ (length (now rs) / 3 ≤ 16) × (length (now cs) / 6 ≤ 32) ⌝ }
+    requires { ⌜ (length (now rs) / 3 ≤ 16) × (length (now cs) / 6 ≤ mostEntries) ⌝ }
     ensures { λ q. ⌜ q ≡ allBelow (length (now (cs .entry)) / 6) (everyAt (now (rs .entry)) (now (cs .entry)) a) ⌝ }
 {
     let n = cs.len() / 6;
@@ -284,7 +287,7 @@ fn query_ok(qs: &[u8], limit: usize) -> bool
 
 // Tests 5 to 8; `a` holds the ancestors of each role, `complex` the roles that are not simple.
 fn test_later(rs: &[u8], cs: &[u8], qs: &[u8], a: [u16; 16], complex: u16) -> Tested
-    requires { ⌜ (length (now rs) / 3 ≤ 16) × (length (now cs) / 6 ≤ 32) ⌝ }
+    requires { ⌜ (length (now rs) / 3 ≤ 16) × (length (now cs) / 6 ≤ mostEntries) ⌝ }
     ensures { λ r. ⌜ refusalOf r ≡ wholly (laterTest (now (rs .entry)) (now (cs .entry)) (now (qs .entry)) a complex) ⌝ }
 {
     if !simples_ok(cs, complex) {

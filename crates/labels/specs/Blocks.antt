@@ -4,7 +4,7 @@ use mathlib.Core.Path.{_≡_, refl, sym, _∙_, ap}
 use mathlib.Core.Bool.{Bool, true, false, _&&_}
 use native.Mathlib.Omega.{arith}
 use native.Mathlib.Decide.{decLt}
-use native.Mathlib.Nat.{div-one, div-eq-of-lt}
+use native.Mathlib.Nat.{div-one, div-eq-of-lt, mul-le-mul-right, suc-mul}
 use lib.Pow.{high, low, pow-add, pow-lt, pow-mono, pow-pos, shr-shr}
 use lib.Bits.{bitAnd, bitOr, and-block, and-lt, or-block, or-zero-r, block-half, block-odd}
 use lib.Dec.{eqb, ltb}
@@ -76,3 +76,8 @@ unfolding with
 with-high k hi lo i h g =
     let e : 2 ^ (i - k) * 2 ^ k + 0 ≡ 2 ^ i = (let a : i - k + k ≡ i = omega arith in let z : 2 ^ (i - k) * 2 ^ k + 0 ≡ 2 ^ (i - k) * 2 ^ k = omega arith in z ∙ sym (pow-add 2 (i - k) k) ∙ ap (λ (n : ℕ). 2 ^ n) a) in
     ap (λ (n : ℕ). block k (bitOr hi (2 ^ (i - k))) n) (sym (or-zero-r lo)) ∙ sym (or-block k hi (2 ^ (i - k)) lo 0 h (pow-pos k)) ∙ ap (λ (n : ℕ). bitOr (block k hi lo) n) e
+
+-- two words of k digits are one of twice as many
+pub block-lt : (k hi lo : ℕ) → hi < 2 ^ k → lo < 2 ^ k → block k hi lo < 2 ^ (k + k)
+block-lt k hi lo h g = let w : suc hi * 2 ^ k ≤ 2 ^ k * 2 ^ k = mul-le-mul-right (2 ^ k) h in let e : suc hi * 2 ^ k ≡ hi * 2 ^ k + 2 ^ k = suc-mul hi (2 ^ k) in
+    rw (pow-add 2 k k) (omega arith)

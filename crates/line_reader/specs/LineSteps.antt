@@ -1,5 +1,5 @@
 -- The form of a line, the inclusions and transitivity as the code tests them, on bytes and on rows as words.
-use Prim.Native.Nat.{ℕ, zero, suc, _+_, _-_, _*_, _/_, _≤_, _<_}
+use Prim.Native.Nat.{ℕ, zero, suc, _+_, _-_, _*_, _/_, _%_, _≤_, _<_}
 use mathlib.Core.Path.{_≡_, refl, sym, _∙_, ap, subst}
 use mathlib.Core.Bool.{Bool, true, false, _&&_}
 use mathlib.Core.List.{List}
@@ -14,26 +14,30 @@ use Rattle.logic.specs.Bounded.{allBelow, all-intro, all-elim, all-cong}
 use Rattle.logic.specs.Sets.{has, narrow, within, setOf}
 use Rattle.logic.specs.SetLaws.{has-setOf, within↔, no-member}
 use Rattle.parts.specs.Numbers.{byteAt, num2}
-use Rattle.labels.specs.Labels.{num4}
+use Rattle.labels.specs.Labels.{wide, nameBytes}
 use Rattle.description.specs.Descriptions.{Description, isName, entryFrom, entryOfFields}
 use Rattle.tables.specs.Tables.{fieldsAt, describe}
 use Rattle.tables.specs.Concepts.{fieldsStruct}
 use Rattle.tables.specs.declared.Fields as Code
 use Rattle.interpretation.specs.Meaning.{Interpretation}
-use Rattle.lines.specs.Lines.{nameAt, pairAt, lineLength, elements, lineTest, mostElements, nameSet}
+use Rattle.lines.specs.Lines.{wideNames, nameSize, nameAt, lineLength, elements, namesAt, lineTest, mostElements, nameSet}
+use Rattle.lines.specs.Numerals.{Bytes, names, bit-byte, bit-past}
 use Rattle.words.specs.Words.{within-setOf}
 
--- the interpretation that the bytes are, the number d of elements apart
-abbrev pub sized : List ℕ → ℕ → Interpretation
-sized s d = record { size = d; name = λ e x. has (num4 s (nameAt x)) e; role = λ r x y. has (num2 s (pairAt d x y)) r }
-
--- role mask q, the rows one after another
+-- role mask q of those from `at` on, and whether role r joins x to y, of d elements
 abbrev pub maskAt : List ℕ → ℕ → ℕ → ℕ
-maskAt s d q = num2 s (nameAt d + 2 * q)
+maskAt s at q = num2 s (at + 2 * q)
+
+abbrev pub pairIn : List ℕ → ℕ → ℕ → ℕ → ℕ → ℕ → Bool
+pairIn s at d r x y = has (maskAt s at (x * d + y)) r
 
 -- the elements that x reaches by the role r
-abbrev pub rowOf : List ℕ → ℕ → ℕ → ℕ → ℕ
-rowOf s d r x = setOf d (λ y. has (num2 s (pairAt d x y)) r)
+abbrev pub rowOf : List ℕ → ℕ → ℕ → ℕ → ℕ → ℕ
+rowOf s at d r x = setOf d (pairIn s at d r x)
+
+-- the interpretation that the bytes are, the number d of elements apart
+abbrev pub sized : Bool → List ℕ → ℕ → Interpretation
+sized broad s d = record { size = d; name = λ e x. has (namesAt broad s x) e; role = pairIn s (nameAt (nameBytes broad) d) d }
 
 -- ---- 23
 -- entry e is a name
@@ -41,25 +45,25 @@ abbrev pub nameEntry : List ℕ → ℕ → Bool
 nameEntry cs e = isName (entryOfFields (fieldsAt cs e))
 
 -- the number of elements, and the length that they ask for
-abbrev pub sizeTest : List ℕ → Bool
-sizeTest s = leb 1 (elements s) && (leb (elements s) mostElements && eqb (length s) (lineLength (elements s)))
+abbrev pub sizeTest : Bool → List ℕ → Bool
+sizeTest broad s = leb 1 (elements s) && (leb (elements s) mostElements && eqb (length s) (lineLength (nameBytes broad) (elements s)))
 
 -- ---- inclusions and transitivity
 -- each pair of role r is one of the parents' too; the parents of the table
-abbrev pub upBy : List ℕ → ℕ → ℕ → ℕ → Bool
-upBy s d r parents = allBelow (d * d) (λ q. has (maskAt s d q) r ⇒ within parents (maskAt s d q))
+abbrev pub upBy : List ℕ → ℕ → ℕ → ℕ → ℕ → Bool
+upBy s at d r parents = allBelow (d * d) (λ q. has (maskAt s at q) r ⇒ within parents (maskAt s at q))
 
-abbrev pub upAt : List ℕ → List ℕ → ℕ → ℕ → Bool
-upAt rs s d r = upBy s d r (num2 rs (3 * r + 1))
+abbrev pub upAt : List ℕ → List ℕ → ℕ → ℕ → ℕ → Bool
+upAt rs s at d r = upBy s at d r (num2 rs (3 * r + 1))
 
 -- if row x holds y, it holds all of row y
 abbrev pub closedAt : List ℕ → ℕ → ℕ → Bool
 closedAt rows x y = has (getD rows x 0) y ⇒ within (getD rows y 0) (getD rows x 0)
 
 -- role t composes with itself, if it is transitive
-abbrev pub composesAt : List ℕ → Interpretation → ℕ → Bool
-composesAt rs I t = eqb (byteAt rs (3 * t)) 1
-    ⇒ allBelow (I .size) (λ x. allBelow (I .size) (λ y. I .role t x y ⇒ allBelow (I .size) (λ z. I .role t y z ⇒ I .role t x z)))
+abbrev pub composesAt : List ℕ → ℕ → (ℕ → ℕ → ℕ → Bool) → ℕ → Bool
+composesAt rs d role t = eqb (byteAt rs (3 * t)) 1
+    ⇒ allBelow d (λ x. allBelow d (λ y. role t x y ⇒ allBelow d (λ z. role t y z ⇒ role t x z)))
 
 -- ---- places
 -- at most m rows of m
@@ -67,8 +71,9 @@ pub few-pairs : (m d x : ℕ) → d ≤ m → x ≤ m → x * d ≤ m * m
 few-pairs m d x h k = mul-le-mul k h
 
 -- the pair (x, y) as row x holds it
-pub row-bit : (s : List ℕ) (d x y r at m : ℕ) {b : Bool} → at ≡ pairAt d x 0 → m ≡ num2 s (at + 2 * y) → b ≡ has m r → b ≡ has (num2 s (pairAt d x y)) r
-row-bit s d x y r at m e f g = g ∙ ap (λ n. has n r) (f ∙ ap (num2 s) (let z : at + 2 * y ≡ pairAt d x y = omega arith in z))
+pub row-bit : (s : List ℕ) (at d x y r row m : ℕ) {b : Bool} → row ≡ at + 2 * (x * d) → m ≡ num2 s (row + 2 * y) → b ≡ has m r
+    → b ≡ pairIn s at d r x y
+row-bit s at d x y r row m e f g = g ∙ ap (λ n. has n r) (f ∙ ap (num2 s) (let z : row + 2 * y ≡ at + 2 * (x * d + y) = omega arith in z))
 
 -- ---- laws for 23
 -- a name is told by its kind
@@ -83,8 +88,9 @@ name-kind cs e f q = rw q (kind (byteAt cs (6 * e)) _ _ _ _)
     kind (suc (suc (suc zero))) r a b n = refl
     kind (suc (suc (suc (suc k)))) r a b n = ne-eqb (suc (suc (suc (suc k)))) 1 (λ q. omega arith)
 
-pub size-read : (s : List ℕ) (d at : ℕ) → d ≡ elements s → at ≡ nameAt d → (leb 1 d && (leb d 64 && eqb (length s) (at + 2 * (d * d)))) ≡ sizeTest s
-size-read s d at e q = rw (q, e) refl
+pub size-read : (broad : Bool) (s : List ℕ) (d at : ℕ) → d ≡ elements s → at ≡ nameAt (nameBytes broad) d
+    → (leb 1 d && (leb d mostElements && eqb (length s) (at + 2 * (d * d)))) ≡ sizeTest broad s
+size-read broad s d at e q = rw (q, e) refl
 
 -- rows of d, one after another
 all-append : (a b : ℕ) (p : ℕ → Bool) → allBelow (a + b) p ≡ (allBelow a p && allBelow b (λ i. p (a + i)))
@@ -101,11 +107,13 @@ all-rows zero d p = rw zero-mul refl
 all-rows (suc n) d p = rw suc-mul (all-append (n * d) d p ∙ ap (λ b. b && allBelow d (λ y. p (n * d + y))) (all-rows n d p))
 
 -- the number of elements and the length first
-line-is : (D : Description) (s : List ℕ) → lineTest D s ≡ (sizeTest s && (allBelow (elements s) (λ x. within (num4 s (nameAt x)) (nameSet D))
-    && allBelow (elements s * elements s) (λ q. narrow (maskAt s (elements s) q) (D .roles))))
+line-is : (D : Description) (s : List ℕ) → lineTest D s ≡ (sizeTest (wideNames D) s
+    && (allBelow (elements s) (λ x. within (namesAt (wideNames D) s x) (nameSet D))
+    && allBelow (elements s * elements s) (λ q. narrow (maskAt s (nameAt (nameSize D) (elements s)) q) (D .roles))))
 unfolding lineTest
-line-is D s = apart (leb 1 (elements s)) (leb (elements s) mostElements) (eqb (length s) (lineLength (elements s))) _
-    ∙ ap (λ b. sizeTest s && (allBelow (elements s) (λ x. within (num4 s (nameAt x)) (nameSet D)) && b)) (sym (all-rows (elements s) (elements s) (λ q. narrow (maskAt s (elements s) q) (D .roles))))
+line-is D s = apart (leb 1 (elements s)) (leb (elements s) mostElements) (eqb (length s) (lineLength (nameSize D) (elements s))) _
+    ∙ ap (λ b. sizeTest (wideNames D) s && (allBelow (elements s) (λ x. within (namesAt (wideNames D) s x) (nameSet D)) && b))
+    (sym (all-rows (elements s) (elements s) (λ q. narrow (maskAt s (nameAt (nameSize D) (elements s)) q) (D .roles))))
   where
     apart : (a b c r : Bool) → (a && (b && (c && r))) ≡ ((a && (b && c)) && r)
     apart true true c r = refl
@@ -113,36 +121,52 @@ line-is D s = apart (leb 1 (elements s)) (leb (elements s) mostElements) (eqb (l
     apart false b c r = refl
 
 -- the number of elements of a line of the right size
-pub size-fits : (s : List ℕ) → sizeTest s ≡ true → (1 ≤ elements s) × (elements s ≤ 64)
-size-fits s h = let t = simp reading at h in (t .0, t .1 .0)
+pub size-fits : (broad : Bool) (s : List ℕ) → sizeTest broad s ≡ true → (1 ≤ elements s) × (elements s ≤ mostElements)
+size-fits broad s h = let t = simp reading at h in (t .0, t .1 .0)
 
-module _ (rs cs s : List ℕ) where
-  pub line-stops : sizeTest s ≡ false → (qs : List ℕ) → false ≡ lineTest (describe rs cs qs) s
-  line-stops e qs = sym (line-is (describe rs cs qs) s ∙ rw e refl)
+module _ (rs cs s : List ℕ) (broad : Bool) (w : broad ≡ wide (length cs / 6)) where
+  pub line-stops : sizeTest broad s ≡ false → (qs : List ℕ) → false ≡ lineTest (describe rs cs qs) s
+  line-stops e qs = sym (line-is (describe rs cs qs) s ∙ rw (sym w, e) refl)
 
   -- the rest is tested where the size is right
-  pub line-goes-on : (d set : ℕ) (names masks : Bool) → sizeTest s ≡ true → d ≡ elements s → set ≡ setOf (length cs / 6) (nameEntry cs)
-      → names ≡ allBelow d (λ x. within (num4 s (nameAt x)) set) → masks ≡ allBelow (d * d) (λ q. narrow (maskAt s d q) (length rs / 3))
+  pub line-goes-on : (d at set : ℕ) (names masks : Bool) → sizeTest broad s ≡ true → d ≡ elements s → at ≡ nameAt (nameBytes broad) d
+      → set ≡ setOf (length cs / 6) (nameEntry cs) → names ≡ allBelow d (λ x. within (namesAt broad s x) set)
+      → masks ≡ allBelow (d * d) (λ q. narrow (maskAt s at q) (length rs / 3))
       → (qs : List ℕ) → (names && masks) ≡ lineTest (describe rs cs qs) s
-  line-goes-on d set names masks e f g p q qs = sym (line-is (describe rs cs qs) s ∙ rw (e, p, q, g, f) refl)
+  line-goes-on d at set names masks e f l g p q qs = sym (line-is (describe rs cs qs) s ∙ rw (sym w, e, p, q, g, l, f) refl)
+
+-- ---- one name: bit e of a mask of k bytes is bit e % 8 of one of them
+module _ (broad : Bool) (s : List ℕ) (x e k : ℕ) (small : Bytes s) (w : k ≡ nameBytes broad) where
+  pub name-past : k ≤ e / 8 → false ≡ has (namesAt broad s x) e
+  name-past h = sym (bit-past (names broad) s (nameAt (nameBytes broad) x) e small (omega arith))
+
+  pub name-here : (at m : ℕ) → e / 8 < k → at ≡ nameAt (nameBytes broad) x → m ≡ byteAt s (at + (k - 1 - e / 8))
+      → has m (e % 8) ≡ has (namesAt broad s x) e
+  name-here at m h p q = rw (q, p, w) (bit-byte (names broad) s (nameAt (nameBytes broad) x) e small (omega arith))
 
 -- ---- laws for inclusions
-pub no-parents : (rs s : List ℕ) (d r : ℕ) → num2 rs (3 * r + 1) ≡ 0 → true ≡ upAt rs s d r
-no-parents rs s d r e = rw e (sym (all-intro (d * d) _ (λ q _. imp-in (has (maskAt s d q) r) (within 0 (maskAt s d q)) (λ _. within↔ 0 (maskAt s d q) .1 (λ i u. absurd (no-member i u))))))
+pub no-parents : (rs s : List ℕ) (at d r : ℕ) → num2 rs (3 * r + 1) ≡ 0 → true ≡ upAt rs s at d r
+no-parents rs s at d r e = rw e (sym (all-intro (d * d) _
+    (λ q _. imp-in (has (maskAt s at q) r) (within 0 (maskAt s at q)) (λ _. within↔ 0 (maskAt s at q) .1 (λ i u. absurd (no-member i u))))))
 
 -- ---- laws for transitivity
-module _ (rs s : List ℕ) (d t k : ℕ) where
-  -- rows that are closed compose
-  rows-compose : (rows : List ℕ) → ((x : ℕ) → x < d → getD rows x 0 ≡ rowOf s d t x) → allBelow d (λ x. allBelow d (closedAt rows x))
-      ≡ allBelow d (λ x. allBelow d (λ y. sized s d .role t x y ⇒ allBelow d (λ z. sized s d .role t y z ⇒ sized s d .role t x z)))
-  rows-compose rows h = all-cong d _ _ (λ x hx. all-cong d _ _ (λ y hy.
-      ap (λ m. has m y ⇒ within (getD rows y 0) m) (h x hx) ∙ ap (λ m. has (rowOf s d t x) y ⇒ within m (rowOf s d t x)) (h y hy)
-      ∙ ap (λ b. b ⇒ within (rowOf s d t y) (rowOf s d t x)) (has-setOf d (sized s d .role t x) y hy)
-      ∙ ap (λ b. sized s d .role t x y ⇒ b) (within-setOf d (sized s d .role t y) (sized s d .role t x))))
+module _ (rs s : List ℕ) (at d t k : ℕ) where
+  -- role t
+  abbrev role : ℕ → ℕ → Bool
+  role = pairIn s at d t
 
-  pub composes-on : (rows : List ℕ) (b : Bool) → k ≡ byteAt rs (3 * t) → k ≡ 1 → ((x : ℕ) → x < d → getD rows x 0 ≡ rowOf s d t x)
-      → b ≡ allBelow d (λ x. allBelow d (closedAt rows x)) → b ≡ composesAt rs (sized s d) t
+  -- rows that are closed compose
+  rows-compose : (rows : List ℕ) → ((x : ℕ) → x < d → getD rows x 0 ≡ rowOf s at d t x) → allBelow d (λ x. allBelow d (closedAt rows x))
+      ≡ allBelow d (λ x. allBelow d (λ y. role x y ⇒ allBelow d (λ z. role y z ⇒ role x z)))
+  rows-compose rows h = all-cong d _ _ (λ x hx. all-cong d _ _ (λ y hy.
+      ap (λ m. has m y ⇒ within (getD rows y 0) m) (h x hx) ∙ ap (λ m. has (rowOf s at d t x) y ⇒ within m (rowOf s at d t x)) (h y hy)
+      ∙ ap (λ b. b ⇒ within (rowOf s at d t y) (rowOf s at d t x)) (has-setOf d (role x) y hy)
+      ∙ ap (λ b. role x y ⇒ b) (within-setOf d (role y) (role x))))
+
+  pub composes-on : (rows : List ℕ) (b : Bool) → k ≡ byteAt rs (3 * t) → k ≡ 1 → ((x : ℕ) → x < d → getD rows x 0 ≡ rowOf s at d t x)
+      → b ≡ allBelow d (λ x. allBelow d (closedAt rows x)) → b ≡ composesAt rs d (pairIn s at d) t
   composes-on rows b e q h r = r ∙ rows-compose rows h ∙ rw (eq-eqb _ _ (sym e ∙ q)) refl
 
-pub composes-off : (rs : List ℕ) (I : Interpretation) (t k : ℕ) → k ≡ byteAt rs (3 * t) → (k ≡ 1 → ⊥) → true ≡ composesAt rs I t
-composes-off rs I t k e q = rw (ne-eqb _ _ (λ z. q (e ∙ z))) refl
+pub composes-off : (rs : List ℕ) (d : ℕ) (role : ℕ → ℕ → ℕ → Bool) (t k : ℕ) → k ≡ byteAt rs (3 * t) → (k ≡ 1 → ⊥)
+    → true ≡ composesAt rs d role t
+composes-off rs d role t k e q = rw (ne-eqb _ _ (λ z. q (e ∙ z))) refl

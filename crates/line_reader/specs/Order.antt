@@ -24,9 +24,10 @@ use Rattle.intake.specs.Order.{stops-1}
 use Rattle.intake.specs.Steps.{tablesTest, tables-are}
 use Rattle.interpretation.specs.Meaning.{Interpretation}
 use Rattle.interpretation.specs.Reading.{includes, composes, follows, satisfies, reads}
-use Rattle.lines.specs.Lines.{lineIn, lineTest, elements, line↔}
+use Rattle.labels.specs.Labels.{wide, nameBytes}
+use Rattle.lines.specs.Lines.{nameAt, lineIn, lineTest, elements, mostElements, line↔}
 use Rattle.line_reader.specs.Reading.{readRefusal, readAnswer}
-use Rattle.line_reader.specs.LineSteps.{sized, maskAt, upAt, composesAt, all-rows}
+use Rattle.line_reader.specs.LineSteps.{sized, maskAt, pairIn, upAt, composesAt, all-rows}
 
 -- a model with the root somewhere
 abbrev pub modelTest : List ℕ → List ℕ → List ℕ → Interpretation → Bool
@@ -34,7 +35,7 @@ modelTest rs cs qs I = reads (describe rs cs qs) I (describe rs cs qs .root ∷ 
 
 -- what is answered of the line, and of the three parts and the line
 abbrev pub answerAfter : List ℕ → List ℕ → List ℕ → List ℕ → Option Refusal → Answer
-answerAfter rs cs qs s o = answer (cond (modelTest rs cs qs (lineIn s)) HOLDS FAILS) o
+answerAfter rs cs qs s o = answer (cond (modelTest rs cs qs (lineIn (wide (length cs / 6)) s)) HOLDS FAILS) o
 
 abbrev lineRefusal : List ℕ → List ℕ → List ℕ → List ℕ → Option Refusal
 lineRefusal rs cs qs s = refuse 0 (unless (lineTest (describe rs cs qs) s) 23 none) none
@@ -46,33 +47,35 @@ unfoldable pub partsAnswer : List ℕ → List ℕ → List ℕ → List ℕ →
 partsAnswer rs cs qs s = answerAfter rs cs qs s (refuse 0 (partsTest rs cs qs) (lineRefusal rs cs qs s))
 
 -- ---- the reading
-module _ (rs cs qs s : List ℕ) (d : ℕ) where
+module _ (rs cs qs s : List ℕ) (broad : Bool) (at d : ℕ) (w : at ≡ nameAt (nameBytes broad) d) where
   -- the inclusions of role r, pair by pair
-  up-at : Accepted (describe rs cs qs) → (r : ℕ) → r < length rs / 3 → upAt rs s d r
-      ≡ allBelow (length rs / 3) (λ q. included (describe rs cs qs) r q ⇒ allBelow d (λ x. allBelow d (λ y. sized s d .role r x y ⇒ sized s d .role q x y)))
-  up-at A r h = all-rows d d (λ q. has (maskAt s d q) r ⇒ within (num2 rs (3 * r + 1)) (maskAt s d q)) ∙ same-test _ _
+  up-at : Accepted (describe rs cs qs) → (r : ℕ) → r < length rs / 3 → upAt rs s at d r
+      ≡ allBelow (length rs / 3) (λ q. included (describe rs cs qs) r q
+      ⇒ allBelow d (λ x. allBelow d (λ y. pairIn s at d r x y ⇒ pairIn s at d q x y)))
+  up-at A r h = all-rows d d (λ q. has (maskAt s at q) r ⇒ within (num2 rs (3 * r + 1)) (maskAt s at q)) ∙ same-test _ _
       (λ u. let v = simp (below, within↔) at u in simp below (λ q hq p x hx y hy w. v x hx y hy w q p))
       (λ u. let v = simp below at u in simp (below, within↔) (λ x hx y hy w q p. v q (A .parents-in r h q p) p x hx y hy w))
 
-  pub model-read : (up on rules root : Bool) → Accepted (describe rs cs qs) → 1 ≤ d → up ≡ allBelow (length rs / 3) (upAt rs s d)
-      → on ≡ allBelow (length rs / 3) (composesAt rs (sized s d)) → rules ≡ follows (describe rs cs qs) (sized s d)
-      → root ≡ satisfies (describe rs cs qs) (sized s d) (describe rs cs qs .root ∷ []) → (up && (on && (rules && root))) ≡ modelTest rs cs qs (sized s d)
+  pub model-read : (up on rules root : Bool) → Accepted (describe rs cs qs) → 1 ≤ d → up ≡ allBelow (length rs / 3) (upAt rs s at d)
+      → on ≡ allBelow (length rs / 3) (composesAt rs d (pairIn s at d)) → rules ≡ follows (describe rs cs qs) (sized broad s d)
+      → root ≡ satisfies (describe rs cs qs) (sized broad s d) (describe rs cs qs .root ∷ [])
+      → (up && (on && (rules && root))) ≡ modelTest rs cs qs (sized broad s d)
   unfolding includes composes
-  model-read up on rules root A h p q r t = rw (leb-so 1 d h, p ∙ all-cong (length rs / 3) _ _ (up-at A), q, r, t) refl
+  model-read up on rules root A h p q r t = rw (leb-so 1 d h, p ∙ all-cong (length rs / 3) _ _ (up-at A), q, r, t, w) refl
 
 -- ---- 23, then the word
 module _ (rs cs qs s : List ℕ) where
-  pub line-fits : lineTest (describe rs cs qs) s ≡ true → (1 ≤ elements s) × (elements s ≤ 64)
+  pub line-fits : lineTest (describe rs cs qs) s ≡ true → (1 ≤ elements s) × (elements s ≤ mostElements)
   line-fits h = let o = line↔ (describe rs cs qs) s .0 h in (o .some-element, o .few-elements)
 
   pub line-refused : lineTest (describe rs cs qs) s ≡ false → ofReading (Readings.the-variants.Refused 23 0) ≡ lineAnswer rs cs qs s
   unfolding lineAnswer
   line-refused e = rw e refl
 
-  pub line-answered : (d : ℕ) (b : Bool) → lineTest (describe rs cs qs) s ≡ true → d ≡ elements s → b ≡ modelTest rs cs qs (sized s d)
-      → answer (cond b HOLDS FAILS) none ≡ lineAnswer rs cs qs s
+  pub line-answered : (broad : Bool) (d : ℕ) (b : Bool) → broad ≡ wide (length cs / 6) → lineTest (describe rs cs qs) s ≡ true
+      → d ≡ elements s → b ≡ modelTest rs cs qs (sized broad s d) → answer (cond b HOLDS FAILS) none ≡ lineAnswer rs cs qs s
   unfolding lineAnswer
-  line-answered d b e q p = rw (e, p, q) refl
+  line-answered broad d b w e q p = rw (e, p, q, w) refl
 
 -- ---- 2 to 8, then the line
 -- what refuses first is answered, whatever comes after

@@ -9,7 +9,8 @@ use native.Mathlib.Omega.{arith}
 use Rattle.logic.specs.Tests.{So}
 use Rattle.logic.specs.Refusals.{Refusal, unless, refuse, unless↔, refuse↔}
 use Rattle.intake.specs.Intake.{bytesTest, described, AcceptedBytes, accepted-bytes↔}
-use Rattle.lines.specs.Lines.{lineIn, lineTest, LineOk, line↔}
+use Rattle.lines.specs.Lines.{wideNames, lineIn, lineTest, LineOk, line↔}
+use Rattle.interpretation.specs.Meaning.{Interpretation}
 use Rattle.interpretation.specs.Models.{Model, Satisfies}
 use Rattle.interpretation.specs.Reading.{reads, reads↔}
 use Rattle.answers.specs.declared.Reading.{Reading}
@@ -21,9 +22,13 @@ use Rattle.answers.specs.Answers.{ofReading, case-when, Answer, HOLDS, FAILS, a
 unfoldable pub readRefusal : List ℕ → List ℕ → Option Refusal
 readRefusal d s = refuse 0 (bytesTest d) (refuse 0 (unless (lineTest (described d) s) 23 none) none)
 
--- HOLDS exactly if the line is a model with the root
+-- what the line is read as, with name masks as wide as the table asks
+abbrev pub readAs : List ℕ → List ℕ → Interpretation
+readAs d s = lineIn (wideNames (described d)) s
+
+-- HOLDS exactly if that is a model with the root
 unfoldable pub readAnswer : List ℕ → List ℕ → Answer
-readAnswer d s = answer (cond (reads (described d) (lineIn s) (described d .root ∷ [])) HOLDS FAILS) (readRefusal d s)
+readAnswer d s = answer (cond (reads (described d) (readAs d s) (described d .root ∷ [])) HOLDS FAILS) (readRefusal d s)
 
 -- ---- when nothing refuses, and which word then
 not-refused↔ : (d s : List ℕ) → (readRefusal d s ≡ none) ↔ (AcceptedBytes d × LineOk (described d) s)
@@ -46,39 +51,39 @@ fails-said b (some x) = (λ e. absurd (let w = same-word _ _ e in let z : _≡_ 
 
 -- the line holds exactly if the description is accepted, the line keeps its form, and it is a model with the root
 pub holds↔ : (d s : List ℕ) → (readAnswer d s ≡ answer HOLDS none)
-    ↔ (AcceptedBytes d × (LineOk (described d) s × (Model (described d) (lineIn s) × Satisfies (described d) (described d .root ∷ []) (lineIn s))))
+    ↔ (AcceptedBytes d × (LineOk (described d) s × (Model (described d) (readAs d s) × Satisfies (described d) (described d .root ∷ []) (readAs d s))))
 unfolding readAnswer
 holds↔ d s = (
   λ e. let h = w .0 e in let k = not-refused↔ d s .0 (h .0) in (k .0, (k .1, m .0 (h .1))),
   λ h. w .1 (not-refused↔ d s .1 (h .0, h .1 .0), m .1 (h .1 .1)),
 )
   where
-    m : So (reads (described d) (lineIn s) (described d .root ∷ [])) ↔ (Model (described d) (lineIn s) × Satisfies (described d) (described d .root ∷ []) (lineIn s))
-    m = reads↔ (described d) (lineIn s) (described d .root ∷ [])
+    m : So (reads (described d) (readAs d s) (described d .root ∷ [])) ↔ (Model (described d) (readAs d s) × Satisfies (described d) (described d .root ∷ []) (readAs d s))
+    m = reads↔ (described d) (readAs d s) (described d .root ∷ [])
 
-    w : (readAnswer d s ≡ answer HOLDS none) ↔ ((readRefusal d s ≡ none) × So (reads (described d) (lineIn s) (described d .root ∷ [])))
+    w : (readAnswer d s ≡ answer HOLDS none) ↔ ((readRefusal d s ≡ none) × So (reads (described d) (readAs d s) (described d .root ∷ [])))
     w = holds-said _ (readRefusal d s)
 
 -- it fails exactly if the description is accepted, the line keeps its form, and it is no model with the root
 pub fails↔ : (d s : List ℕ) → (readAnswer d s ≡ answer FAILS none)
-    ↔ (AcceptedBytes d × (LineOk (described d) s × ((Model (described d) (lineIn s) × Satisfies (described d) (described d .root ∷ []) (lineIn s)) → ⊥)))
+    ↔ (AcceptedBytes d × (LineOk (described d) s × ((Model (described d) (readAs d s) × Satisfies (described d) (described d .root ∷ []) (readAs d s)) → ⊥)))
 unfolding readAnswer
 fails↔ d s = (
   λ e. let h = w .0 e in let k = not-refused↔ d s .0 (h .0) in (k .0, (k .1, λ t. h .1 (m .1 t))),
   λ h. w .1 (not-refused↔ d s .1 (h .0, h .1 .0), λ t. h .1 .1 (m .0 t)),
 )
   where
-    m : So (reads (described d) (lineIn s) (described d .root ∷ [])) ↔ (Model (described d) (lineIn s) × Satisfies (described d) (described d .root ∷ []) (lineIn s))
-    m = reads↔ (described d) (lineIn s) (described d .root ∷ [])
+    m : So (reads (described d) (readAs d s) (described d .root ∷ [])) ↔ (Model (described d) (readAs d s) × Satisfies (described d) (described d .root ∷ []) (readAs d s))
+    m = reads↔ (described d) (readAs d s) (described d .root ∷ [])
 
-    w : (readAnswer d s ≡ answer FAILS none) ↔ ((readRefusal d s ≡ none) × (So (reads (described d) (lineIn s) (described d .root ∷ [])) → ⊥))
+    w : (readAnswer d s ≡ answer FAILS none) ↔ ((readRefusal d s ≡ none) × (So (reads (described d) (readAs d s) (described d .root ∷ [])) → ⊥))
     w = fails-said _ (readRefusal d s)
 
 -- ---- so for what read_interpretation answers
 pub holds-when : (d s : List ℕ) (r : Reading) → ofReading r ≡ readAnswer d s → (r ≡ Holds)
-    ↔ (AcceptedBytes d × (LineOk (described d) s × (Model (described d) (lineIn s) × Satisfies (described d) (described d .root ∷ []) (lineIn s))))
+    ↔ (AcceptedBytes d × (LineOk (described d) s × (Model (described d) (readAs d s) × Satisfies (described d) (described d .root ∷ []) (readAs d s))))
 holds-when d s r e = case-when (ofReading r) (readAnswer d s) (answer HOLDS none) e (Case.holds↔ r) (holds↔ d s)
 
 pub fails-when : (d s : List ℕ) (r : Reading) → ofReading r ≡ readAnswer d s → (r ≡ Fails)
-    ↔ (AcceptedBytes d × (LineOk (described d) s × ((Model (described d) (lineIn s) × Satisfies (described d) (described d .root ∷ []) (lineIn s)) → ⊥)))
+    ↔ (AcceptedBytes d × (LineOk (described d) s × ((Model (described d) (readAs d s) × Satisfies (described d) (described d .root ∷ []) (readAs d s)) → ⊥)))
 fails-when d s r e = case-when (ofReading r) (readAnswer d s) (answer FAILS none) e (Case.fails↔ r) (fails↔ d s)

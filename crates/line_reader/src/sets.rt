@@ -1,13 +1,15 @@
-// Sets of elements: numbers below 64, in one word.
+// Sets of elements, in one word.
 ghost use mathlib.Core.Path.{_≡_};
 ghost use Prim.Native.Nat.{_<_, _≤_};
 ghost use Rattle.logic.specs.Sums.{only, countBelow};
 ghost use Rattle.logic.specs.Sets.{has};
+ghost use Rattle.lines.specs.Lines.{mostElements};
 ghost use Rattle.words.specs.Words.{allOf};
+use lines::MOST_ELEMENTS;
 
 // Whether the set holds `i`.
 pub(crate) fn has64(x: u64, i: usize) -> bool
-    requires { ⌜ i < 64 ⌝ }
+    requires { ⌜ i < mostElements ⌝ }
     ensures { λ r. ⌜ r ≡ has x i ⌝ }
 {
     (x >> i) % 2 == 1
@@ -15,7 +17,7 @@ pub(crate) fn has64(x: u64, i: usize) -> bool
 
 // 1 if the set holds `i`, else 0.
 fn bit64(x: u64, i: usize) -> usize
-    requires { ⌜ i < 64 ⌝ }
+    requires { ⌜ i < mostElements ⌝ }
     ensures { λ r. ⌜ (r ≡ only (has x i) 1) × (r ≤ 1) ⌝ }
 {
     ((x >> i) % 2) as usize
@@ -23,10 +25,10 @@ fn bit64(x: u64, i: usize) -> usize
 
 // The set of the first `d` numbers.
 pub(crate) fn full_set(d: usize) -> u64
-    requires { ⌜ d ≤ 64 ⌝ }
+    requires { ⌜ d ≤ mostElements ⌝ }
     ensures { λ r. ⌜ r ≡ allOf d ⌝ }
 {
-    if d < 64 {
+    if d < MOST_ELEMENTS {
         (1 << d) - 1
     } else {
         18446744073709551615
@@ -35,7 +37,7 @@ pub(crate) fn full_set(d: usize) -> u64
 
 // How many of the first `d` numbers the set holds.
 pub(crate) fn set_size(x: u64, d: usize) -> usize
-    requires { ⌜ d ≤ 64 ⌝ }
+    requires { ⌜ d ≤ mostElements ⌝ }
     ensures { λ r. ⌜ r ≡ countBelow d (has x) ⌝ }
 {
     let mut n: usize = 0;

@@ -1,5 +1,5 @@
 -- Worked examples: what the writer answers and leaves, and what the reader answers to such lines. (P4 itself stands in demands/Trials.)
-use Prim.Native.Nat.{ℕ}
+use Prim.Native.Nat.{ℕ, zero, suc, _*_}
 use mathlib.Core.Path.{_≡_, refl}
 use mathlib.Core.List.{List, [], _∷_, _++_, map}
 use mathlib.Core.Option.{none, some}
@@ -21,6 +21,7 @@ use Rattle.graph.specs.Graphs.{total}
 use Rattle.graph.specs.GraphTests.{labelTest, bothTest, edgeTest, everyTest, countTest, nodeRefusal, graphRefusal}
 use Rattle.graph.specs.Line.{copies, joins, direct, pairs}
 use Rattle.intake.specs.Intake.{sizesTest, partsTest, bytesTest}
+use Rattle.labels.specs.Labels.{labelBytes, nameBytes, labelIn, namesIn}
 use Rattle.evidence.specs.Evidence.{headTest, nodeFormTest}
 use Rattle.lines.specs.Lines.{lineTest, lineByte}
 use Rattle.answers.specs.Answers.{Answer, answer, WRITTEN, HOLDS, FAILS, REFUSED}
@@ -40,8 +41,23 @@ fourth = 4 ∷ replicate 16 0 ++ row ++ row ++ replicate 16 0
 abbrev names : List ℕ
 names = entry 1 0 0 0 0 ++ entry 1 0 0 0 0
 
-abbrev wide : List ℕ
-wide = parts (replicate 27 0) (entry 0 0 0 0 0 ++ names ++ names ++ names ++ names) (16 ∷ [])
+abbrev ninth : List ℕ
+ninth = parts (replicate 27 0) (entry 0 0 0 0 0 ++ names ++ names ++ names ++ names) (16 ∷ [])
+
+-- top and n names, the last of them the root: with 31 the name masks have 4 bytes, with 32 they have 8
+abbrev table : ℕ → List ℕ
+table zero = []
+table (suc n) = entry 1 0 0 0 0 ++ table n
+
+abbrev named : ℕ → List ℕ
+named n = parts (0 ∷ 0 ∷ 0 ∷ []) (entry 0 0 0 0 0 ++ table n) (2 * n ∷ [])
+
+-- one element that has the last name, and no pair
+abbrev narrowLine : List ℕ
+narrowLine = 1 ∷ 128 ∷ 0 ∷ 0 ∷ 0 ∷ 0 ∷ 0 ∷ []
+
+abbrev wideLine : List ℕ
+wideLine = 1 ∷ 0 ∷ 0 ∷ 0 ∷ 1 ∷ 0 ∷ 0 ∷ 0 ∷ 0 ∷ 0 ∷ 0 ∷ []
 
 record Trial : Type 0 where
   pub description : List ℕ
@@ -68,13 +84,31 @@ trials =
     ∷ refused first (one (node 1 (edge 0 1 65))) [] 21
     -- name entry 8 and role 8, whose bits are in the higher bytes
     ∷ record {
-      description = wide;
+      description = ninth;
       evidence = one (0 ∷ 0 ∷ 0 ∷ 0 ∷ 0 ∷ 1 ∷ 0 ∷ 1 ∷ edge 0 256 1);
       buffer = replicate 7 165;
       told = answer WRITTEN none;
       long = 7;
       after = 1 ∷ 0 ∷ 0 ∷ 1 ∷ 0 ∷ 1 ∷ 0 ∷ [];
     }
+    -- 32 entries, with name entry 31, and 33, with name entry 32
+    ∷ record {
+      description = named 31;
+      evidence = one (64 ∷ 0 ∷ 0 ∷ 0 ∷ 0 ∷ 0 ∷ 0 ∷ 1 ∷ []);
+      buffer = replicate 11 165;
+      told = answer WRITTEN none;
+      long = 7;
+      after = narrowLine ++ replicate 4 165;
+    }
+    ∷ record {
+      description = named 32;
+      evidence = one (replicate 7 0 ++ 1 ∷ replicate 7 0 ++ 1 ∷ []);
+      buffer = replicate 11 165;
+      told = answer WRITTEN none;
+      long = 11;
+      after = wideLine;
+    }
+    ∷ refused (named 32) (one (replicate 7 0 ++ 1 ∷ replicate 7 0 ++ 1 ∷ [])) (replicate 10 165) 22
     ∷ []
 
 -- the answer, the length and every byte of the buffer, by the definitions
@@ -89,10 +123,13 @@ tried t = record {
 }
 
 trials-hold : map tried trials ≡ trials
-unfolding trials writeRefused graphRefused graphTests graphRefusal refuseFrom headTest nodeFormTest nodeRefusal labelTest bothTest edgeTest everyTest countTest total each some? tabulate members nonempty
+unfolding trials writeRefused graphRefused graphTests graphRefusal refuseFrom headTest nodeFormTest labelBytes nameBytes labelIn nodeRefusal labelTest bothTest edgeTest everyTest countTest total each some? tabulate members nonempty
     bytesTest partsTest sizesTest fills fillsFrom descriptionTests allBelow anyBelow narrow entryTest literal entryFrom ifBoth ifLeast ifEvery simple ancestor closure has sameEntry
     copies maxBelow lineByte setOf joins direct pairs
 trials-hold = refl
+
+abbrev formless : Answer
+formless = answer REFUSED (some (record { number = 23; place = 0 }))
 
 -- the line is read as a model with the root, also where element 1 has a filler less; where 0 and 1 have, it is none; cut short, or with a bit for no role,
 -- it has not the form
@@ -104,7 +141,16 @@ reads-hold : map (readAnswer third) (
     ∷ (4 ∷ replicate 16 0 ++ row ++ row ++ replicate 15 0 ++ 2 ∷ [])
     ∷ []
     )
-    ≡ (answer HOLDS none ∷ answer HOLDS none ∷ answer FAILS none ∷ answer REFUSED (some (record { number = 23; place = 0 })) ∷ answer REFUSED (some (record { number = 23; place = 0 })) ∷ [])
-unfolding readAnswer readRefusal lineTest within setOf includes composes follows satisfies truth truthWith meaning sumBelow each
+    ≡ (answer HOLDS none ∷ answer HOLDS none ∷ answer FAILS none ∷ formless ∷ formless ∷ [])
+unfolding readAnswer readRefusal lineTest nameBytes namesIn within setOf includes composes follows satisfies truth truthWith meaning sumBelow each
     bytesTest partsTest sizesTest fills fillsFrom descriptionTests allBelow anyBelow narrow entryTest literal entryFrom ifLeast ifEvery simple ancestor closure has sameEntry
 reads-hold = refl
+
+-- with 32 entries the masks of 4 bytes are read, with 33 those of 8: the other line has not the length; a bit for entry 33 is of none;
+-- without the root's bit the line is no model with the root
+widths-read : map (readAnswer (named 31)) (narrowLine ∷ wideLine ∷ [])
+    ++ map (readAnswer (named 32)) (wideLine ∷ narrowLine ∷ (1 ∷ 0 ∷ 0 ∷ 0 ∷ 2 ∷ replicate 6 0) ∷ (1 ∷ replicate 10 0) ∷ [])
+    ≡ (answer HOLDS none ∷ formless ∷ answer HOLDS none ∷ formless ∷ formless ∷ answer FAILS none ∷ [])
+unfolding readAnswer readRefusal lineTest nameBytes namesIn within setOf includes composes follows satisfies truth truthWith meaning sumBelow each
+    bytesTest partsTest sizesTest fills fillsFrom descriptionTests allBelow anyBelow narrow entryTest literal entryFrom ifLeast ifEvery simple ancestor closure has sameEntry
+widths-read = refl

@@ -1,28 +1,34 @@
 // Writes the line of a graph.
 ghost use mathlib.Core.Path.{_≡_};
-ghost use Prim.Native.Nat.{_+_, _*_, _^_, _≤_, _<_};
-ghost use Rattle.labels.specs.Labels.{valueOf};
+ghost use mathlib.Core.Bool.{cond};
+ghost use Prim.Native.Nat.{_+_, _*_, _/_, _^_, _≤_, _<_};
+ghost use Rattle.labels.specs.Labels.{mostEntries, wide, nameBytes, valueOf};
+ghost use lib.Dec.{ltb};
 ghost use lib.ListN.{length};
 ghost use Rattle.tables.specs.Tables.{describe};
 ghost use Rattle.answers.specs.Answers.{ofWritten, lengthOf};
-ghost use Rattle.lines.specs.Lines.{nameAt, lineLength};
+ghost use Rattle.lines.specs.Lines.{mostElements, nameAt, lineLength};
 ghost use Rattle.lines.specs.Laying.{Masks, Names};
 ghost use Rattle.evidence.specs.Evidence.{recordCount};
-ghost use Rattle.line_writer.specs.WriteBytes.{LaidLine};
-ghost use Rattle.line_writer.specs.WriteOrder.{Told, roomIn, Wrote, partsRefused};
+ghost use Rattle.line_writer.specs.WriteBytes.{rowsAt, LaidLine};
+ghost use Rattle.line_writer.specs.WriteOrder.{ToldOf, Wrote, partsRefused};
 ghost use Rattle.line_writer.specs.Writing.{writeAnswer, writeLength, bufferAfter};
-ghost use Rattle.line_writer.specs.WriteSteps.{nameIn, namesIn, elementNames, transitivesIn, rowMasks, directMasks};
+ghost use Rattle.line_writer.specs.WriteSteps.{nameIn, namesOf, elementNames, transitivesIn, rowMasks, directMasks};
 use answers::Tested;
 use answers::Written;
 use closing::close_roles;
 use copies::most_copies;
 use copies::owner_mask;
+use evidence::Layout;
+use evidence::layout_of;
 use evidence::record_edges;
 use evidence::record_label;
 use graph_check::test_sample;
 use intake::directory_ok;
 use labels::Label;
 use labels::holds;
+use labels::name_bytes;
+use lines::MOST_ELEMENTS;
 use nodes::entry_count;
 use parts::byte;
 use parts::part;
@@ -40,20 +46,23 @@ fn put2(buf: &mut [u8], at: usize, m: u16)
     buf[at + 1] = (m % 256) as u8;
 }
 
-// The four bytes of the name mask `m` at `at`, high byte first.
-fn put4(buf: &mut [u8], at: usize, m: u64)
-    requires { ⌜ (at + 4 ≤ length (now buf)) × (m < 2 ^ 32) ⌝ }
-    ensures { λ _. ⌜ Names at (λ i. m) (now (buf .entry)) 1 (now (buf .exit)) ⌝ }
+// The name mask `m` at `at`, high byte first: from its last byte to its first.
+fn put_names(buf: &mut [u8], at: usize, m: u64, broad: bool)
+    requires { ⌜ (at + nameBytes broad ≤ length (now buf)) × (m < 2 ^ (8 * nameBytes broad)) ⌝ }
+    ensures { λ _. ⌜ Names broad at (λ i. m) (now (buf .entry)) 1 (now (buf .exit)) ⌝ }
 {
-    buf[at] = (m / 16777216 % 256) as u8;
-    buf[at + 1] = (m / 65536 % 256) as u8;
-    buf[at + 2] = (m / 256 % 256) as u8;
-    buf[at + 3] = (m % 256) as u8;
+    let mut rest = m;
+    let mut i = name_bytes(broad);
+    while 0 < i {
+        i -= 1;
+        buf[at + i] = (rest % 256) as u8;
+        rest = rest / 256;
+    }
 }
 
 // Whether entry `e` is a name that the label holds.
 fn name_in(cs: &[u8], x: Label, e: EntryNo) -> bool
-    requires { ⌜ e .0 < 32 ⌝ }
+    requires { ⌜ e .0 < mostEntries ⌝ }
     ensures { λ r. ⌜ r ≡ nameIn (now (cs .entry)) (valueOf x) (e .0) ⌝ }
 {
     (byte(cs, 6 * (e.0 as usize)) == 1) & holds(x, 2 * e.0)
@@ -61,7 +70,7 @@ fn name_in(cs: &[u8], x: Label, e: EntryNo) -> bool
 
 // The name entries that the label holds.
 fn name_mask(cs: &[u8], x: Label) -> u64
-    ensures { λ r. ⌜ (r ≡ namesIn (now (cs .entry)) (valueOf x)) × (r < 2 ^ 32) ⌝ }
+    ensures { λ r. ⌜ (r ≡ namesOf (now (cs .entry)) (valueOf x)) × (r < 2 ^ (8 * nameBytes (wide (length (now (cs .entry)) / 6)))) ⌝ }
 {
     let n = entry_count(cs);
     let mut out: u64 = 0;
@@ -74,16 +83,35 @@ fn name_mask(cs: &[u8], x: Label) -> u64
 }
 
 // The name masks of `d` elements, `k` copies of each record.
-fn lay_names(buf: &mut [u8], cs: &[u8], s: &[u8], d: u8, k: u8)
-    requires { ⌜ (1 ≤ k) × (nameAt d ≤ length (now buf)) ⌝ }
-    ensures { λ _. ⌜ Names 1 (elementNames (now (cs .entry)) (now (s .entry)) k) (now (buf .entry)) d (now (buf .exit)) ⌝ }
+fn lay_names(buf: &mut [u8], cs: &[u8], s: &[u8], d: u8, k: u8, f: Layout)
+    requires { ⌜ (1 ≤ k) × (rowsAt f d ≤ length (now buf)) × (f .wide ≡ wide (length (now cs) / 6)) ⌝ }
+    ensures { λ _. ⌜ Names (f .wide) 1 (elementNames (now (cs .entry)) f (now (s .entry)) k) (now (buf .entry)) d (now (buf .exit)) ⌝ }
 {
+    let w = name_bytes(f.wide);
+    let mut at: usize = 1;
     let mut z: u8 = 0;
     while z < d {
-        let m = name_mask(cs, record_label(s, z / k));
-        put4(buf, 1 + 4 * (z as usize), m);
+        let m = name_mask(cs, record_label(s, z / k, f));
+        put_names(buf, at, m, f.wide);
+        at += w;
         z += 1;
     }
+}
+
+// The element after copy `j` of record `y`, with `k` copies of each: which copy it is, and of which record. A division would be a library
+// call on a small processor.
+fn copy_after(j: u8, k: u8) -> u8
+    requires { ⌜ j < k ⌝ }
+    ensures { λ r. ⌜ r ≡ cond (ltb (j + 1) k) (j + 1) 0 ⌝ }
+{
+    if j + 1 < k { j + 1 } else { 0 }
+}
+
+fn record_after(y: u8, j: u8, k: u8) -> u8
+    requires { ⌜ (j < k) × (y < 255) ⌝ }
+    ensures { λ r. ⌜ r ≡ cond (ltb (j + 1) k) y (y + 1) ⌝ }
+{
+    if j + 1 < k { y } else { y + 1 }
 }
 
 // The row at `at`: the direct pairs from a copy of a record with the edges `es` to `d` elements, `k` copies of each record.
@@ -91,24 +119,27 @@ fn lay_row(buf: &mut [u8], at: usize, es: &[u8], d: u8, k: u8)
     requires { ⌜ (1 ≤ k) × (at + 2 * d ≤ length (now buf)) ⌝ }
     ensures { λ _. ⌜ Masks at (rowMasks (now (es .entry)) k) (now (buf .entry)) d (now (buf .exit)) ⌝ }
 {
+    let mut y: u8 = 0;
+    let mut j: u8 = 0;
     let mut w: u8 = 0;
     while w < d {
-        let m = owner_mask(es, w / k, (w % k) as usize);
-        put2(buf, at + 2 * (w as usize), m);
+        put2(buf, at + 2 * (w as usize), owner_mask(es, y, j as usize));
+        y = record_after(y, j, k);
+        j = copy_after(j, k);
         w += 1;
     }
 }
 
-// The rows of the direct pairs of `d` elements, `k` copies of each record.
-fn lay_rows(buf: &mut [u8], s: &[u8], d: u8, k: u8)
-    requires { ⌜ (1 ≤ k) × (lineLength d ≤ length (now buf)) ⌝ }
-    ensures { λ _. ⌜ Masks (nameAt d) (directMasks (now (s .entry)) k d) (now (buf .entry)) (d * d) (now (buf .exit)) ⌝ }
+// The rows of the direct pairs of `d` elements, `k` copies of each record, the first at `at`.
+fn lay_rows(buf: &mut [u8], at: usize, s: &[u8], d: u8, k: u8, f: Layout)
+    requires { ⌜ (1 ≤ k) × (at + 2 * (d * d) ≤ length (now buf)) ⌝ }
+    ensures { λ _. ⌜ Masks at (directMasks f (now (s .entry)) k d) (now (buf .entry)) (d * d) (now (buf .exit)) ⌝ }
 {
-    let mut at = 1 + 4 * (d as usize);
+    let mut row = at;
     let mut z: u8 = 0;
     while z < d {
-        lay_row(buf, at, record_edges(s, z / k), d, k);
-        at += 2 * (d as usize);
+        lay_row(buf, row, record_edges(s, z / k, f), d, k);
+        row += 2 * (d as usize);
         z += 1;
     }
 }
@@ -127,15 +158,24 @@ fn transitive_roles(rs: &[u8]) -> u16
     (out % 65536) as u16
 }
 
-// The line of `d` elements, `k` copies of each record, if `a` holds the ancestors of each role.
-fn lay_line(buf: &mut [u8], rs: &[u8], cs: &[u8], s: &[u8], a: [u16; 16], d: u8, k: u8)
-    requires { ⌜ (1 ≤ k) × (lineLength d ≤ length (now buf)) ⌝ }
-    ensures { λ _. ⌜ LaidLine (now (rs .entry)) (now (cs .entry)) (now (s .entry)) a k d (now (buf .entry)) (now (buf .exit)) ⌝ }
+// Where the role masks of `size` elements begin.
+fn rows_at(size: usize, broad: bool) -> usize
+    requires { ⌜ size ≤ 255 ⌝ }
+    ensures { λ r. ⌜ (r ≡ nameAt (nameBytes broad) size) × (r ≤ 65536) ⌝ }
 {
+    1 + name_bytes(broad) * size
+}
+
+// The line of `d` elements, `k` copies of each record, if `a` holds the ancestors of each role.
+fn lay_line(buf: &mut [u8], rs: &[u8], cs: &[u8], s: &[u8], a: [u16; 16], d: u8, k: u8, f: Layout)
+    requires { ⌜ (1 ≤ k) × (lineLength (nameBytes (f .wide)) d ≤ length (now buf)) × (f .wide ≡ wide (length (now cs) / 6)) ⌝ }
+    ensures { λ _. ⌜ LaidLine (now (rs .entry)) (now (cs .entry)) f (now (s .entry)) a k d (now (buf .entry)) (now (buf .exit)) ⌝ }
+{
+    let at = rows_at(d as usize, f.wide);
     buf[0] = d;
-    lay_names(buf, cs, s, d, k);
-    lay_rows(buf, s, d, k);
-    close_roles(buf, d, transitive_roles(rs), a);
+    lay_names(buf, cs, s, d, k, f);
+    lay_rows(buf, at, s, d, k, f);
+    close_roles(buf, at, d, transitive_roles(rs), a);
 }
 
 // The number of elements, with `k` copies of each of `n` records.
@@ -147,29 +187,30 @@ fn element_count(n: u8, k: usize) -> usize
 }
 
 // The length of a line of `size` elements.
-fn line_length(size: usize) -> usize
-    requires { ⌜ size ≤ 64 ⌝ }
-    ensures { λ r. ⌜ r ≡ lineLength size ⌝ }
+fn line_length(size: usize, broad: bool) -> usize
+    requires { ⌜ size ≤ mostElements ⌝ }
+    ensures { λ r. ⌜ r ≡ lineLength (nameBytes broad) size ⌝ }
 {
-    1 + 4 * size + 2 * (size * size)
+    rows_at(size, broad) + 2 * (size * size)
 }
 
 // 21, 22, and then the line, for a graph that keeps the rules.
 fn write_kept(buf: &mut [u8], rs: &[u8], cs: &[u8], s: &[u8], a: [u16; 16]) -> Written
     requires { ⌜ 1 ≤ recordCount (now s) ⌝ }
-    ensures { λ r. ⌜ Told (now (rs .entry)) (now (cs .entry)) (now (s .entry)) a (now (buf .entry)) (now (buf .exit)) r (roomIn (now (s .entry)) (length (now (buf .entry)))) ⌝ }
+    ensures { λ r. ⌜ ToldOf (now (rs .entry)) (now (cs .entry)) (now (s .entry)) a (now (buf .entry)) (now (buf .exit)) r ⌝ }
 {
+    let f = layout_of(cs);
     let n = byte(s, 1);
-    let k = most_copies(s, n);
+    let k = most_copies(s, n, f);
     let size = element_count(n, k);
-    if 64 < size {
+    if MOST_ELEMENTS < size {
         return Written::Refused(21, 0);
     }
-    let len = line_length(size);
+    let len = line_length(size, f.wide);
     if buf.len() < len {
         return Written::Refused(22, 0);
     }
-    lay_line(buf, rs, cs, s, a, (size % 256) as u8, (k % 256) as u8);
+    lay_line(buf, rs, cs, s, a, (size % 256) as u8, (k % 256) as u8, f);
     Written::Line(len)
 }
 

@@ -1,18 +1,18 @@
 -- Numbers of w bytes laid in a buffer, one after another: what each loop of a writer keeps. For any width w.
-use Prim.Native.Nat.{ℕ, zero, suc, _+_, _-_, _*_, _/_, _%_, _^_, _≤_, _<_}
-use mathlib.Core.Path.{_≡_, refl, sym, _∙_, ap, ap₂, subst}
+use Prim.Native.Nat.{ℕ, suc, _+_, _-_, _*_, _/_, _%_, _^_, _≤_, _<_}
+use mathlib.Core.Path.{_≡_, refl, sym, _∙_, ap, ap₂}
 use mathlib.Core.Logic.{_⊎_, inl, inr}
+use mathlib.Core.Bool.{Bool}
 use mathlib.Core.List.{List}
 use native.Mathlib.Omega.{arith}
 use native.Mathlib.Decide.{decLt}
-use native.Mathlib.Nat.{mul-le-mul-left, mul-suc, mul-add, div-one, add-zero}
+use native.Mathlib.Nat.{mul-le-mul-left, mul-suc, mul-add, div-one, div-div-eq-div-mul, pow-suc}
 use lib.ListN.{length, set, length-set}
 use lib.Seq.{getD-set-same, getD-set-other}
 use Rattle.parts.specs.Numbers.{byteAt, num2}
-use Rattle.labels.specs.Blocks.{block}
-use Rattle.labels.specs.Labels.{num4}
-use Rattle.lines.specs.LineLaws.{four-bytes}
+use Rattle.labels.specs.Labels.{nameBytes, namesIn}
 use Rattle.lines.specs.Lines.{byteOf}
+use Rattle.lines.specs.Numerals.{Local, Numeral, two, names}
 
 -- the first n numbers at `at`, as `read` reads them, are those of g, and all other bytes are as in `old`
 pub record Laid (w : ℕ) (read : List ℕ → ℕ → ℕ) (at : ℕ) (g : ℕ → ℕ) (old : List ℕ) (n : ℕ) (new : List ℕ) : Type 0 where
@@ -24,34 +24,15 @@ pub record Laid (w : ℕ) (read : List ℕ → ℕ → ℕ) (at : ℕ) (g : ℕ 
 abbrev pub Masks : ℕ → (ℕ → ℕ) → List ℕ → ℕ → List ℕ → Type 0
 Masks = Laid 2 num2
 
-abbrev pub Names : ℕ → (ℕ → ℕ) → List ℕ → ℕ → List ℕ → Type 0
-Names = Laid 4 num4
+abbrev pub Names : Bool → ℕ → (ℕ → ℕ) → List ℕ → ℕ → List ℕ → Type 0
+Names broad = Laid (nameBytes broad) (namesIn broad)
 
--- all elements are bytes
-abbrev pub Bytes : List ℕ → Type 0
-Bytes l = (p : ℕ) → byteAt l p < 256
-
--- a number is read from its own bytes alone
-abbrev pub Local : ℕ → (List ℕ → ℕ → ℕ) → Type 0
-Local w read = (l m : List ℕ) (p : ℕ) → ((q : ℕ) → p ≤ q → q < p + w → byteAt l q ≡ byteAt m q) → read l p ≡ read m p
-
+-- role masks are read from their own bytes alone, and so are name masks
 pub two-local : Local 2 num2
-two-local l m p e = ap₂ (λ (a b : ℕ). a * 256 + b) (e p (omega arith) (omega arith)) (e (p + 1) (omega arith) (omega arith))
+two-local = two .local
 
-pub four-local : Local 4 num4
-four-local l m p e = ap₂ (block 16) (two-local l m p (λ q a b. e q a (omega arith))) (two-local l m (p + 2) (λ q a b. e q (omega arith) (omega arith)))
-
-pub one-local : Local 1 byteAt
-one-local l m p e = e p (omega arith) (omega arith)
-
--- and each of its bytes is had from it
-pub byte-of-four : (l : List ℕ) (at i : ℕ) → Bytes l → i < 4 → byteAt l (at + i) ≡ byteOf 4 (num4 l at) i
-byte-of-four l at zero small h = let a = small (at + 1) in let b = small (at + 2) in let c = small (at + 2 + 1) in let d = small at in rw add-zero (omega arith)
-byte-of-four l at (suc zero) small h = let a = small (at + 1) in let b = small (at + 2) in let c = small (at + 2 + 1) in let d = small at in omega arith
-byte-of-four l at (suc (suc zero)) small h = let a = small (at + 1) in let b = small (at + 2) in let c = small (at + 2 + 1) in let d = small at in omega arith
-byte-of-four l at (suc (suc (suc zero))) small h = let a = small (at + 1) in let b = small (at + 2) in let c = small (at + 2 + 1) in let d = small at in
-    ap (byteAt l) (let z : at + 3 ≡ at + 2 + 1 = omega arith in z) ∙ (omega arith)
-byte-of-four l at (suc (suc (suc (suc i)))) small h = absurd (omega arith)
+pub names-local : (broad : Bool) → Local (nameBytes broad) (namesIn broad)
+names-local broad = names broad .local
 
 -- a number lies before the next one
 before-next : (w i n : ℕ) → i < n → w * i + w ≤ w * n
@@ -132,25 +113,46 @@ pub mask-more : (at y v w : ℕ) (g : ℕ → ℕ) (old new : List ℕ) → at +
     → Masks at g old (y + 1) (put2 new (at + 2 * y) v w)
 mask-more at y v w g old new h e l = laid-more 2 num2 two-local at y (g y) g old new _ l (laid-two new (at + 2 * y) v w (g y) (omega (arith, l .whole)) e) refl
 
--- one name mask
-four-stored : (l : List ℕ) (at m : ℕ) → at + 4 ≤ length l → m < 2 ^ 32
-    → Names at (λ i. m) l 1 (put2 (put2 l at (m / 16777216 % 256) (m / 65536 % 256)) (at + 2) (m / 256 % 256) (m % 256))
-four-stored l at m h few = record {
-  whole = put2-whole b (at + 2) _ _ ∙ put2-whole l at _ _;
-  numbers = λ i k. let z : at + 4 * i ≡ at = omega arith in rw z (ap₂ (block 16) (first ∙ put2-here l at _ _ (omega arith)) (put2-here b (at + 2) _ _ (omega (arith, put2-whole l at (m / 16777216 % 256) (m / 65536 % 256)))) ∙ digits);
-  others = λ p o. put2-else b (at + 2) _ _ p (elim o [ inl q ↦ inl (omega arith) | inr q ↦ inr (omega arith) ]) ∙ put2-else l at _ _ p (elim o [ inl q ↦ inl q | inr q ↦ inr (omega arith) ]);
-}
-  where
-    b : List ℕ
-    b = put2 l at (m / 16777216 % 256) (m / 65536 % 256)
+-- ---- a number of w bytes, stored from the last byte to the first
+-- the bytes of m from byte i on stand at `at`, and all others are as in `old`
+pub record Ending (w at m : ℕ) (old : List ℕ) (i : ℕ) (new : List ℕ) : Type 0 where
+  pub whole : length new ≡ length old
+  pub bytes : (j : ℕ) → i ≤ j → j < w → byteAt new (at + j) ≡ byteOf w m j
+  pub others : (p : ℕ) → (p < at + i) ⊎ (at + w ≤ p) → byteAt new p ≡ byteAt old p
 
-    first : num2 (put2 b (at + 2) (m / 256 % 256) (m % 256)) at ≡ num2 b at
-    first = two-local (put2 b (at + 2) (m / 256 % 256) (m % 256)) b at (λ q a c. put2-else b (at + 2) _ _ q (inl (omega arith)))
+module _ (w at m : ℕ) (old : List ℕ) where
+  pub ending-none : (i : ℕ) → i ≡ w → Ending w at m old i old
+  ending-none i e = record { whole = refl; bytes = λ j h k. absurd (omega arith); others = λ p _. refl }
 
-    digits : block 16 (m / 16777216 % 256 * 256 + m / 65536 % 256) (m / 256 % 256 * 256 + m % 256) ≡ m
-    digits = ap₂ (block 16) refl (ap (λ (n : ℕ). m / 256 % 256 * 256 + n % 256) (sym (div-one m))) ∙ four-bytes m few
+  -- one byte more: the last of what is left of m
+  pub ending-more : (i rest : ℕ) (mid : List ℕ) → 1 ≤ i → i ≤ w → at + w ≤ length old → rest ≡ m / 256 ^ (w - i) → Ending w at m old i mid
+      → Ending w at m old (i - 1) (set mid (at + (i - 1)) (rest % 256))
+  ending-more i rest mid some h room e r = record {
+    whole = length-set mid (at + (i - 1)) (rest % 256) ∙ r .whole;
+    bytes = λ j l g. go j l g (decLt j i);
+    others = λ p o. getD-set-other mid (at + (i - 1)) p (rest % 256) 0 (λ q. elim o [ inl z ↦ omega arith | inr z ↦ omega arith ])
+        ∙ r .others p (elim o [ inl z ↦ inl (omega arith) | inr z ↦ inr z ]);
+  }
+    where
+      go : (j : ℕ) → i - 1 ≤ j → j < w → Dec (j < i) → byteAt (set mid (at + (i - 1)) (rest % 256)) (at + j) ≡ byteOf w m j
+      go j l g (yes k) = let z : j ≡ i - 1 = omega arith in let y : w - i ≡ w - 1 - (i - 1) = omega arith in
+          rw z (getD-set-same mid (at + (i - 1)) (rest % 256) 0 (omega (arith, r .whole)) ∙ rw e (ap (λ (n : ℕ). m / 256 ^ n % 256) y))
+      go j l g (no k) = getD-set-other mid (at + (i - 1)) (at + j) (rest % 256) 0 (λ q. omega arith) ∙ r .bytes j (omega arith) g
 
-pub laid-four : (l : List ℕ) (at m : ℕ) → at + 4 ≤ length l → m < 2 ^ 32
-    → Names at (λ i. m) l 1 (set (set (put2 l at (m / 16777216 % 256) (m / 65536 % 256)) (at + 2) (m / 256 % 256)) (at + 3) (m % 256))
-laid-four l at m h few = let z : at + 2 + 1 ≡ at + 3 = omega arith in
-    subst (λ p. Names at (λ i. m) l 1 (set (set (put2 l at (m / 16777216 % 256) (m / 65536 % 256)) (at + 2) (m / 256 % 256)) p (m % 256))) z (four-stored l at m h few)
+  -- what is left of m: at first all of it, then without the bytes stored
+  pub rest-none : (i : ℕ) → i ≡ w → m ≡ m / 256 ^ (w - i)
+  rest-none i e = let z : w - i ≡ 0 = omega arith in rw z (sym (div-one m))
+
+  pub rest-more : (i rest : ℕ) → 1 ≤ i → i ≤ w → rest ≡ m / 256 ^ (w - i) → rest / 256 ≡ m / 256 ^ (w - (i - 1))
+  rest-more i rest some h e = let z : suc (w - i) ≡ w - (i - 1) = omega arith in
+      ap (λ (n : ℕ). n / 256) e ∙ div-div-eq-div-mul m (256 ^ (w - i)) 256 ∙ ap (λ (n : ℕ). m / n) (sym (pow-suc 256 (w - i)))
+      ∙ ap (λ (n : ℕ). m / 256 ^ n) z
+
+  pub ending-all : (read : List ℕ → ℕ → ℕ) (new : List ℕ) → Numeral w read → m < 2 ^ (8 * w) → Ending w at m old 0 new
+      → Laid w read at (λ i. m) old 1 new
+  ending-all read new k few r = record {
+    whole = r .whole;
+    numbers = λ i h. let z : i ≡ 0 = omega arith in let y : at + w * 0 ≡ at = omega arith in
+        rw (z, y) (k .made new at m few (λ j g. r .bytes j (omega arith) g));
+    others = λ p o. r .others p (elim o [ inl q ↦ inl (omega arith) | inr q ↦ inr (omega arith) ]);
+  }

@@ -1,6 +1,7 @@
 -- What each row of a step gives to the cells, found once for the step and held in four arrays of six; 0 stands behind the last row.
 use Prim.Native.Nat.{ℕ, zero, suc, _+_, _%_, _^_, _≤_, _<_}
-use mathlib.Core.Path.{_≡_, refl, _∙_, ap, subst, fun-ext}
+use mathlib.Core.Path.{_≡_, refl, sym, _∙_, ap, subst, fun-ext}
+use mathlib.Core.Logic.{inl, inr}
 use mathlib.Core.Bool.{Bool, true, false, cond, _&&_, _||_}
 use mathlib.Core.List.{List}
 use native.Mathlib.Omega.{arith}
@@ -9,32 +10,36 @@ use borrow.Author.Tests.{lt-ltb, le-ltb, ne-eqb}
 use lib.Dec.{eqb, ltb}
 use lib.ListN.{length, getD, set, replicate, length-set}
 use lib.Seq.{getD-set-same, getD-set-other}
-use Rattle.logic.specs.Tests.{_⇒_}
-use Rattle.logic.specs.Bounded.{allBelow, anyBelow}
+use Rattle.logic.specs.Tests.{So, _⇒_, decide, and-l, and-r, or-cases, same-test, so-eqb, eqb↔, so-ltb, ltb-so}
+use Rattle.logic.specs.Bounded.{allBelow, anyBelow, any-elim}
 use Rattle.logic.specs.Sums.{only}
 use Rattle.logic.specs.Sets.{has, within, setOf}
+use Rattle.logic.specs.SetLaws.{no-member, set-ext}
 use Rattle.parts.specs.Numbers.{byteAt}
-use Rattle.labels.specs.Labels.{labelWith, valueOf}
+use Rattle.labels.specs.Labels.{labelWith, valueOf, noLabel}
 use Rattle.labels.specs.declared.Label.{Label}
 use Rattle.description.specs.Literals.{literal, opposite, code, code-literal}
+use Rattle.description.specs.Descriptions.{entryOfFields}
+use Rattle.tables.specs.Tables.{fieldsAt}
+use Rattle.tables.specs.Concepts.{conceptAt}
+use Rattle.tables.specs.declared.Concept.{Concept}
+use Rattle.tables.specs.declared.Concept.the-variants.{Every}
+use Rattle.tables.specs.declared.RoleNo.{RoleNo}
 use Rattle.nodes.specs.NodeSteps.{entryCount}
-use Rattle.evidence.specs.Evidence.{labelOf}
+use Rattle.fillers.specs.FillerSteps.{carried}
 use Rattle.refutation.specs.Cells.{Row}
 use Rattle.refutation.specs.RecordTests.{ifCited}
 use Rattle.list_form.specs.ListForm.{cellOf}
 use Rattle.rows.specs.declared.Row as Held
-use Rattle.rows.specs.HeldRows.{given}
-use Rattle.list_cells.specs.CellSteps.{room, everyShows, inRoom, Puts}
-use Rattle.list_cells.specs.CellLaws.{adds-nothing, put-set}
+use Rattle.rows.specs.HeldRows.{given, heldAt, firstAt, first-held}
+use Rattle.list_cells.specs.CellSteps.{room, everyShows, carriedAt, passes, inRoom, Puts}
+use Rattle.list_cells.specs.CellLaws.{none-in, adds-nothing, adds-more, put-set, isEvery↔, everyOf, every-read}
 
 -- ---- arrays of six
 -- the values of the first k elements are those of f, and 0 behind them; v tells an element's value, and d stands past the end
 pub record SixOf {A : Type 0} (v : A → ℕ) (d : A) (f : ℕ → ℕ) (k : ℕ) (out : List A) : Type 0 where
   pub size : length out ≡ 6
-  pub at : (i : ℕ) → v (getD out i d) ≡ only (ltb i k) (f i)
-
-abbrev pub noLabel : Label
-noLabel = record { high = 0; low = 0 }
+  pub at : (i : ℕ) → i < 6 → v (getD out i d) ≡ only (ltb i k) (f i)
 
 -- the number at i of an array of masks, or of labels
 abbrev pub maskAt : List ℕ → ℕ → ℕ
@@ -49,7 +54,10 @@ Masks = SixOf (λ x. x) 0
 abbrev pub Labels : (ℕ → ℕ) → ℕ → List Label → Type 0
 Labels = SixOf valueOf noLabel
 
--- ---- what a row gives
+-- ---- what a row gives, if it is there
+abbrev pub onlyIf : Bool → ℕ → ℕ
+onlyIf = only
+
 -- the roles above its own, by the table a, and the mask of its own, if that fits
 abbrev pub aboveOf : List ℕ → Row → ℕ
 aboveOf a R = getD a (R .role % 16) 0
@@ -64,9 +72,13 @@ showsOwn cs a N on R l = eqb (code (R .qualifier)) l || anyBelow (entryCount cs)
 unfoldable pub shownBy : List ℕ → List ℕ → ℕ → (ℕ → Bool) → Row → ℕ
 shownBy cs a N on R = setOf room (showsOwn cs a N on R)
 
--- what it shows of other cells that have its role
+-- the literal that it shows of other cells that have its role
 abbrev pub deniedBy : Row → ℕ
-deniedBy R = labelWith 0 (code (opposite (R .qualifier)))
+deniedBy R = code (opposite (R .qualifier))
+
+-- row i shows l of its own cells by entry f; `above` has the roles above that of each row
+abbrev pub entryShows : List ℕ → List ℕ → List ℕ → ℕ → List ℕ → ℕ → ℕ → ℕ → Bool
+entryShows rs cs a N above f i l = everyShows cs N (carriedAt rs cs a N) (has (maskAt above i)) l f
 
 -- ---- what a cell has of the arrays
 -- t is among the roles of cell c
@@ -74,36 +86,37 @@ unfoldable pub rolesIn : List ℕ → ℕ → ℕ → Bool
 rolesIn above c t = anyBelow 6 (λ i. has c i && has (maskAt above i) t)
 
 -- row i shows l of cell c, whose roles are those that pass `among`
-abbrev pub gives : (ℕ → Bool) → List ℕ → List Label → List Label → ℕ → ℕ → ℕ → Bool
-gives among own shown against c l i = cond (has c i) (has (labelAt shown i) l) (anyBelow 16 (λ t. among t && has (maskAt own i) t) && has (labelAt against i) l)
+abbrev pub gives : (ℕ → Bool) → List ℕ → List Label → List ℕ → ℕ → ℕ → ℕ → Bool
+gives among own shown against c l i = cond (has c i) (has (labelAt shown i) l)
+    (anyBelow 16 (λ t. among t && has (maskAt own i) t) && eqb (maskAt against i) l)
 
 -- the known label
-unfoldable pub gathered : List ℕ → List ℕ → List Label → List Label → ℕ → ℕ
+unfoldable pub gathered : List ℕ → List ℕ → List Label → List ℕ → ℕ → ℕ
 gathered above own shown against c = setOf room (λ l. eqb 0 l || anyBelow 6 (gives (rolesIn above c) own shown against c l))
 
--- the record that the byte b cites, if one, has its label within M
-abbrev pub citedIn : List ℕ → ℕ → ℕ → Bool
-citedIn s M b = ifCited (λ j. within (labelOf s j) M) (cellOf b)
+-- the record that the byte b cites, if one, has its label within M; num j is the label of record j
+abbrev pub citedIn : (ℕ → ℕ) → ℕ → ℕ → Bool
+citedIn num M b = ifCited (λ j. within (num j) M) (cellOf b)
 
 -- test 18 of cell c of the step ds; the byte of cell 1 stands behind the k row literals
-abbrev pub gatheredOn : List ℕ → List ℕ → List ℕ → List Label → List Label → List ℕ → ℕ → ℕ → Bool
-gatheredOn s above own shown against ds k c = ltb 0 c ⇒ citedIn s (gathered above own shown against c) (byteAt ds (1 + k + c))
+abbrev pub gatheredOn : (ℕ → ℕ) → List ℕ → List ℕ → List Label → List ℕ → List ℕ → ℕ → ℕ → Bool
+gatheredOn num above own shown against ds k c = ltb 0 c ⇒ citedIn num (gathered above own shown against c) (byteAt ds (1 + k + c))
 
-module _ (s above own : List ℕ) (shown against : List Label) (ds : List ℕ) (k : ℕ) where
+module _ (num : ℕ → ℕ) (above own : List ℕ) (shown : List Label) (against ds : List ℕ) (k : ℕ) where
   -- cell 0 is none
-  pub no-cell : allBelow 1 (gatheredOn s above own shown against ds k) ≡ true
+  pub no-cell : allBelow 1 (gatheredOn num above own shown against ds k) ≡ true
   unfolding allBelow
   no-cell = refl
 
-  pub cell-at : (c b : ℕ) (t : Bool) → 1 ≤ c → b ≡ byteAt ds (1 + k + c) → t ≡ citedIn s (gathered above own shown against c) b → t ≡ gatheredOn s above own shown against ds k c
+  pub cell-at : (c b : ℕ) (t : Bool) → 1 ≤ c → b ≡ byteAt ds (1 + k + c) → t ≡ citedIn num (gathered above own shown against c) b → t ≡ gatheredOn num above own shown against ds k c
   cell-at c b t h e q = rw (lt-ltb 0 c h, ← e) q
 
-module _ (s : List ℕ) (M b : ℕ) where
-  pub cell-open : b ≡ 255 → true ≡ citedIn s M b
+module _ (num : ℕ → ℕ) (M b : ℕ) where
+  pub cell-open : b ≡ 255 → true ≡ citedIn num M b
   unfolding ifCited
   cell-open e = rw e refl
 
-  pub cell-cited : (x y : ℕ) → (b ≡ 255 → ⊥) → x ≡ labelOf s b → y ≡ M → within x y ≡ citedIn s M b
+  pub cell-cited : (x y : ℕ) → (b ≡ 255 → ⊥) → x ≡ num b → y ≡ M → within x y ≡ citedIn num M b
   unfolding ifCited
   cell-cited x y e p q = rw (ne-eqb b 255 e, p, q) refl
 
@@ -129,14 +142,15 @@ pub row-neither : (N : ℕ) (b d : Bool) (p q : ℕ → Bool) → b ≡ false �
 row-neither N b d p q e g l = adds-nothing inRoom N l ∙ rw (e, g) refl
 
 -- the label with what the rows show
-pub gathered-is : (above own : List ℕ) (shown against : List Label) (c r T Q : ℕ) → ((t : ℕ) → has r t ≡ rolesIn above c t) → T ≡ labelWith 0 0
+pub gathered-is : (above own : List ℕ) (shown : List Label) (against : List ℕ) (c r T Q : ℕ) → ((t : ℕ)
+    → has r t ≡ rolesIn above c t) → T ≡ labelWith 0 0
     → Puts T Q (λ l. anyBelow 6 (gives (has r) own shown against c l)) → Q ≡ gathered above own shown against c
 unfolding gathered
 gathered-is above own shown against c r T Q roles e h = put-set T Q 0 _ e h ∙ ap (λ (m : ℕ → Bool). setOf room (λ l. eqb 0 l || anyBelow 6 (gives m own shown against c l))) (fun-ext roles)
 
 -- ---- filling the arrays
 pub six-start : {A : Type 0} {v : A → ℕ} {d : A} (f : ℕ → ℕ) (x : A) → v x ≡ 0 → v d ≡ 0 → SixOf v d f 0 (replicate 6 x)
-six-start {A} {v} {d} f x e q = record { size = refl; at = λ i. let z : 0 ≤ i = omega arith in rw (le-ltb i 0 z) (go i) }
+six-start {A} {v} {d} f x e q = record { size = refl; at = λ i _. let z : 0 ≤ i = omega arith in rw (le-ltb i 0 z) (go i) }
   where
     go : (i : ℕ) → v (getD (replicate 6 x) i d) ≡ 0
     go zero = e
@@ -147,18 +161,142 @@ six-start {A} {v} {d} f x e q = record { size = refl; at = λ i. let z : 0 ≤ i
     go (suc (suc (suc (suc (suc zero))))) = e
     go (suc (suc (suc (suc (suc (suc i)))))) = q
 
+-- an element of an array that one is put into
+set-at : {A : Type 0} (out : List A) (i m : ℕ) (x d : A) (P : A → Type 0) → length out ≡ 6 → i < 6 → (m ≡ i → P x) → ((m ≡ i → ⊥)
+    → P (getD out m d)) → P (getD (set out i x) m d)
+set-at out i m x d P s h here there = elim (decide (eqb m i)) [
+  | inl u ↦ (let e = so-eqb m i u in
+      subst P (sym (ap (λ m. getD (set out i x) m d) e ∙ getD-set-same out i x d (omega (arith, s)))) (here e))
+  | inr u ↦ (let e : m ≡ i → ⊥ = λ q. u (eqb↔ m i .1 q) in subst P (sym (getD-set-other out i m x d e)) (there e))
+]
+
+-- the numbers below i + 1 but i
+ltb-next : (m i : ℕ) → (m ≡ i → ⊥) → ltb m i ≡ ltb m (i + 1)
+ltb-next m i e = same-test _ _ (λ u. let z = so-ltb m i u in ltb-so m (i + 1) (omega arith)) (λ u. let z = so-ltb m (i + 1) u in
+    ltb-so m i (omega (arith, e)))
+
 module _ {A : Type 0} {v : A → ℕ} {d : A} {f : ℕ → ℕ} {out : List A} {i : ℕ} (r : SixOf v d f i out) where
   pub six-more : (x : A) → i < 6 → v x ≡ f i → SixOf v d f (i + 1) (set out i x)
-  six-more x h e = record { size = simp length-set (r .size); at = λ m. go m (decLt m i) }
-    where
-      go : (m : ℕ) → Dec (m < i) → v (getD (set out i x) m d) ≡ only (ltb m (i + 1)) (f m)
-      go m (yes l) = let z : m < i + 1 = omega arith in
-          ap v (getD-set-other out i m x d (λ q. omega arith)) ∙ r .at m ∙ rw (lt-ltb m i l, lt-ltb m (i + 1) z) refl
-      go m (no l) = elim (decLt m (i + 1)) [
-        | yes k ↦ (let z : m ≡ i = omega arith in let w : i < i + 1 = omega arith in rw (z, lt-ltb i (i + 1) w) (ap v (getD-set-same out i x d (omega (arith, r .size))) ∙ e))
-        | no k ↦ (let z : i ≤ m = omega arith in let w : i + 1 ≤ m = omega arith in
-            ap v (getD-set-other out i m x d (λ q. omega arith)) ∙ r .at m ∙ rw (le-ltb m i z, le-ltb m (i + 1) w) refl)
-      ]
+  six-more x h e = record {
+    size = simp length-set (r .size);
+    at = λ m b. set-at out i m x d (λ y. v y ≡ only (ltb m (i + 1)) (f m)) (r .size) h
+        (λ q. let z : i < i + 1 = omega arith in rw (q, lt-ltb i (i + 1) z) e)
+        (λ q. r .at m b ∙ ap (λ t. only t (f m)) (ltb-next m i q));
+  }
 
-  pub six-done : (k : ℕ) → i ≤ k → k ≤ i → SixOf v d f k out
-  six-done k h g = let e : i ≡ k = omega arith in subst (λ k. SixOf v d f k out) e r
+  -- all six, with 0 behind the first k
+  pub six-done : (k : ℕ) (g : ℕ → ℕ) → 6 ≤ i → ((m : ℕ) → f m ≡ only (ltb m k) (g m)) → SixOf v d g k out
+  six-done k g h e = record { size = r .size; at = λ m b. let z : m < i = omega arith in r .at m b ∙ rw (lt-ltb m i z) (e m) }
+
+-- what a row gives that is read as one of the first k, if it is one
+pub six-row : (rows : List Held.Row) (k i : ℕ) (x : Held.Row) (f : Held.Row → ℕ) → k ≤ 6 → x ≡ firstAt rows k i
+    → only (ltb i k) (f x) ≡ only (ltb i k) (f (heldAt rows i))
+six-row rows k i x f few e = elim (decLt i k) [
+  | yes l ↦ ap (λ R. only (ltb i k) (f R)) (first-held rows k i x l few e)
+  | no l ↦ (let z : k ≤ i = omega arith in rw (le-ltb i k z) refl)
+]
+
+-- ---- labels that grow together
+-- each label of `new` has what that of `old` has, and of what passes p what fits
+pub record Grown (old new : List Label) (p : ℕ → ℕ → Bool) : Type 0 where
+  pub size : length new ≡ 6
+  pub at : (i : ℕ) → i < 6 → Puts (labelAt old i) (labelAt new i) (p i)
+
+pub grown-nothing : (old : List Label) (p : ℕ → ℕ → Bool) → length old ≡ 6 → ((i l : ℕ) → p i l ≡ false) → Grown old old p
+grown-nothing old p e h = record {
+  size = e;
+  at = λ i _ l. adds-nothing inRoom (labelAt old i) l ∙ ap (λ b. has (labelAt old i) l || (inRoom l && b)) (sym (h i l));
+}
+
+-- entry by entry
+pub grown-none : (old : List Label) (p : ℕ → ℕ → ℕ → Bool) → length old ≡ 6 → Grown old old (λ i l. anyBelow 0 (λ g. p g i l))
+unfolding anyBelow
+grown-none old p e = grown-nothing old _ e (λ i l. refl)
+
+module _ (old mid : List Label) (f : ℕ) (p : ℕ → ℕ → ℕ → Bool) (A : Grown old mid (λ i l. anyBelow f (λ g. p g i l))) where
+  pub grown-more : (new : List Label) → Grown mid new (p f) → Grown old new (λ i l. anyBelow (f + 1) (λ g. p g i l))
+  grown-more new B = record {
+    size = B .size;
+    at = λ i h. adds-more inRoom (labelAt old i) (labelAt mid i) f (λ g. p g i) (A .at i h) (labelAt new i) (B .at i h);
+  }
+
+  pub grown-done : (n : ℕ) → f ≤ n → n ≤ f → Grown old mid (λ i l. anyBelow n (λ g. p g i l))
+  grown-done n h k = let e : f ≡ n = omega arith in subst (λ n. Grown old mid (λ i l. anyBelow n (λ g. p g i l))) e A
+
+-- row by row
+pub grown-start : (old : List Label) (p : ℕ → ℕ → Bool) → length old ≡ 6 → Grown old old (λ m l. ltb m 0 && p m l)
+grown-start old p e = grown-nothing old _ e (λ m l. let z : 0 ≤ m = omega arith in rw (le-ltb m 0 z) refl)
+
+module _ (old out : List Label) (i : ℕ) (p : ℕ → ℕ → Bool) (A : Grown old out (λ m l. ltb m i && p m l)) where
+  pub grown-row : (x : Label) → i < 6 → Puts (labelAt out i) (valueOf x) (p i) → Grown old (set out i x) (λ m l. ltb m (i + 1) && p m l)
+  grown-row x h B = record {
+    size = simp length-set (A .size);
+    at = λ m b. set-at out i m x noLabel (λ y. Puts (labelAt old m) (valueOf y) (λ l. ltb m (i + 1) && p m l)) (A .size) h
+        (λ q. subst (λ m. Puts (labelAt old m) (valueOf x) (λ l. ltb m (i + 1) && p m l)) (sym q) here)
+        (λ q. subst (λ t. Puts (labelAt old m) (labelAt out m) (λ l. t && p m l)) (ltb-next m i q) (A .at m b));
+  }
+    where
+      here : Puts (labelAt old i) (valueOf x) (λ l. ltb i (i + 1) && p i l)
+      here l = let y : i ≤ i = omega arith in let z : i < i + 1 = omega arith in
+          let same : has (labelAt out i) l ≡ has (labelAt old i) l = A .at i h l
+          ∙ rw (le-ltb i i y) (sym (adds-nothing inRoom (labelAt old i) l)) in
+          B l ∙ rw (same, lt-ltb i (i + 1) z) refl
+
+  pub grown-rows : 6 ≤ i → Grown old out p
+  grown-rows h = record { size = A .size; at = λ m b. let z : m < i = omega arith in rw (lt-ltb m i z) at (A .at m b) }
+
+pub put-told : (N M : ℕ) (b d : Bool) (p : ℕ → Bool) → b ≡ d → Puts N M (λ l. b && p l) → Puts N M (λ l. d && p l)
+put-told N M b d p e h = subst (λ b. Puts N M (λ l. b && p l)) e h
+
+-- by an entry: x is the concept that is read
+module _ (rs cs a : List ℕ) (N : ℕ) (above : List ℕ) (f : ℕ) (old : List Label) (x v : Concept) (e : x ≡ conceptAt cs f) (q : x ≡ v) where
+  pub grown-other : length old ≡ 6 → ((t : ℕ → ℕ → Bool) → everyOf t v ≡ false) → Grown old old (entryShows rs cs a N above f)
+  grown-other s none = grown-nothing old (entryShows rs cs a N above f) s
+      (λ i l. sym (every-read cs f x v e q (λ t k. passes N (carriedAt rs cs a N f) (has (maskAt above i) t) f k l)) ∙ none _)
+
+  pub grown-every : (new : List Label) (t : RoleNo) (l M : ℕ) → v ≡ Every t l → Puts 0 M (passes N (carried rs cs a N (t .0) l) true f l)
+      → Grown old new (λ i m. has (maskAt above i) (t .0) && has M m) → Grown old new (entryShows rs cs a N above f)
+  grown-every new t l M u h g = record { size = g .size; at = λ i b m. g .at i b m ∙ ap (λ z. has (labelAt old i) m || z) (told i m) }
+    where
+      onward : carried rs cs a N (t .0) l ≡ carriedAt rs cs a N f
+      onward = every-read cs f x (Every t l) e (q ∙ u) (carried rs cs a N)
+
+      twice : (r b c : Bool) → (r && (b && (r && c))) ≡ (r && (b && c))
+      twice true b c = refl
+      twice false b c = refl
+
+      told : (i m : ℕ) → (inRoom m && (has (maskAt above i) (t .0) && has M m)) ≡ (inRoom m && entryShows rs cs a N above f i m)
+      told i m = ap (λ z. inRoom m && (has (maskAt above i) (t .0) && z)) (h m
+          ∙ ap (λ z. z || (inRoom m && passes N (carried rs cs a N (t .0) l) true f l m)) (none-in m))
+          ∙ twice (inRoom m) (has (maskAt above i) (t .0)) _
+          ∙ ap (λ z. inRoom m && passes N z (has (maskAt above i) (t .0)) f l m) onward
+          ∙ ap (λ z. inRoom m && z) (every-read cs f x (Every t l) e (q
+          ∙ u) (λ t k. passes N (carriedAt rs cs a N f) (has (maskAt above i) t) f k m))
+
+-- what is shown of no role
+shown-none : (cs : List ℕ) (N : ℕ) (on : ℕ → Bool) (T Q M n : ℕ) → T ≡ 0 → M ≡ 0
+    → Puts T Q (λ l. anyBelow n (everyShows cs N on (has M) l)) → Q ≡ 0
+shown-none cs N on T Q M n e g h = set-ext Q 0
+    (λ l u. elim (or-cases (has T l) _ (sym (h l) ∙ u)) [
+      | inl v ↦ subst (λ n. So (has n l)) e v
+      | inr v ↦ (let w = any-elim n (everyShows cs N on (has M) l) (and-r (inRoom l) _ v) in
+          let y = isEvery↔ _ (entryOfFields (fieldsAt cs (w .0))) .0 (w .2) in
+          absurd (no-member (y .0) (subst (λ n. So (has n (y .0))) g (and-l (has M (y .0)) _ (y .3)))))
+    ])
+    (λ l u. absurd (no-member l u))
+
+-- the qualifiers, with what all entries show
+pub shown-six : (cs a : List ℕ) (N : ℕ) (on : ℕ → Bool) (rows : List Held.Row) (k : ℕ) (above : List ℕ) (old new : List Label)
+    → Labels (λ i. labelWith 0 (heldAt rows i .qualifier)) k old → Masks (λ i. aboveOf a (given (heldAt rows i))) k above
+    → Grown old new (λ i l. anyBelow (entryCount cs) (everyShows cs N on (has (maskAt above i)) l))
+    → Labels (λ i. shownBy cs a N on (given (heldAt rows i))) k new
+shown-six cs a N on rows k above old new S B G = record { size = G .size; at = λ i h. go i h (decLt i k) }
+  where
+    go : (i : ℕ) → i < 6 → Dec (i < k) → labelAt new i ≡ only (ltb i k) (shownBy cs a N on (given (heldAt rows i)))
+    go i h (yes l) = rw (lt-ltb i k l) (shown-is cs a N on (heldAt rows i) (labelAt old i) (labelAt new i) (rw (lt-ltb i k l) at
+        (S .at i h))
+        (subst (λ m. Puts (labelAt old i) (labelAt new i) (λ l. anyBelow (entryCount cs) (everyShows cs N on (has m) l))) (rw
+        (lt-ltb i k l) at (B .at i h)) (G .at i h)))
+    go i h (no l) = let z : k ≤ i = omega arith in rw (le-ltb i k z)
+        (shown-none cs N on (labelAt old i) (labelAt new i) (maskAt above i) (entryCount cs) (rw (le-ltb i k z) at (S .at i h))
+        (rw (le-ltb i k z) at (B .at i h)) (G .at i h))

@@ -1,21 +1,28 @@
 // Test 18 of a counting step: what every filler of a cell has, and that the record cited for the cell has no more.
 ghost use mathlib.Core.Path.{_≡_};
-ghost use mathlib.Core.Bool.{_&&_, cond};
+ghost use mathlib.Core.Bool.{_&&_, cond, true};
 ghost use Prim.Native.Nat.{ℕ, _*_, _<_, _≤_};
 ghost use lib.Dec.{eqb};
+ghost use lib.ListN.{length};
 ghost use Rattle.logic.specs.Bounded.{anyBelow};
 ghost use Rattle.logic.specs.Sets.{has};
 ghost use Rattle.parts.specs.Numbers.{upTo};
-ghost use Rattle.labels.specs.Labels.{valueOf};
-ghost use Rattle.nodes.specs.NodeSteps.{entryCount};
+ghost use Rattle.labels.specs.Labels.{mostEntries, valueOf, labelWith};
+ghost use Rattle.evidence.specs.Evidence.{labelOf};
 ghost use Rattle.rows.specs.HeldRows.{given, heldAt, rowsHeld};
-ghost use Rattle.list_cells.specs.CellSteps.{Adds, Puts, entryIn, passes, everyShows, carriedAt, cellsCode};
-ghost use Rattle.list_cells.specs.CellRows.{Masks, Labels, shownBy, deniedBy, bitOf, aboveOf, rolesIn, gathered, citedIn};
+ghost use Rattle.fillers.specs.FillerSteps.{carried};
+ghost use Rattle.list_cells.specs.CellSteps.{Adds, Puts, passes, carriedAt, cellsCode};
+ghost use Rattle.list_cells.specs.CellRows.{onlyIf, Masks, Labels, maskAt, Grown, rolesIn, gathered, citedIn};
+ghost use Rattle.list_cells.specs.CellRows.{entryShows, shownBy, deniedBy, bitOf, aboveOf};
+use evidence::Layout;
 use evidence::record_label;
 use fillers::is_carried;
 use labels::Label;
+use labels::empty;
 use labels::holds;
+use labels::join;
 use labels::lies_within;
+use labels::only;
 use labels::put;
 use nodes::entry_count;
 use nodes::opposite;
@@ -44,129 +51,11 @@ fn put_if(x: Label, l: u8, asked: bool) -> Label
     if asked { put(x, l) } else { x }
 }
 
-// Whether entry `f` is an "every" that the label `x` carries on.
-fn carried_at(rs: &[u8], cs: &[u8], a: [u16; 16], x: Label, f: EntryNo) -> bool
-    ensures { λ q. ⌜ q ≡ carriedAt (now (rs .entry)) (now (cs .entry)) a (valueOf x) (f .0) ⌝ }
+// The label with that of `y`, if that is asked.
+fn add_if(x: Label, y: Label, asked: bool) -> Label
+    ensures { λ r. ⌜ Puts (valueOf x) (valueOf r) (λ l. asked && has (valueOf y) l) ⌝ }
 {
-    let c = concept_at(cs, f);
-    match c {
-        Concept::Every(t, l) => is_carried(rs, cs, a, x, t, l),
-        Concept::Top => false,
-        Concept::Name => false,
-        Concept::Both(_, _) => false,
-        Concept::AtLeast(_) => false,
-    }
-}
-
-// The entries that the label `x` carries on, as literals.
-fn carried_entries(rs: &[u8], cs: &[u8], a: [u16; 16], x: Label) -> Label
-    ensures { λ r. ⌜ ((f : ℕ) → f < entryCount (now (cs .entry)) → entryIn (valueOf r) f ≡ carriedAt (now (rs .entry)) (now (cs .entry)) a (valueOf x) f) ⌝ }
-{
-    let n = entry_count(cs);
-    let mut out = Label { high: 0, low: 0 };
-    let mut f: u8 = 0;
-    while f < n {
-        out = put_if(out, 2 * f, carried_at(rs, cs, a, x, EntryNo(f)));
-        f += 1;
-    }
-    out
-}
-
-// The label with what "every t l", entry `f`, shows of a cell: nothing if `t` is not among its roles.
-fn with_passed(out: Label, x: Label, on: Label, roles: u16, f: EntryNo, t: RoleNo, l: u8) -> Label
-    requires { ⌜ f .0 < 32 ⌝ }
-    ensures { λ r. ⌜ Puts (valueOf out) (valueOf r) (passes (valueOf x) (entryIn (valueOf on) (f .0)) (has roles (t .0)) (f .0) l) ⌝ }
-{
-    if has16(roles, t.0) {
-        let passed = put_if(out, l, holds(x, 2 * f.0));
-        put_if(passed, 2 * f.0, holds(on, 2 * f.0))
-    } else {
-        out
-    }
-}
-
-// The label with what entry `f` shows of a cell.
-fn with_every(out: Label, cs: &[u8], x: Label, on: Label, roles: u16, f: EntryNo) -> Label
-    requires { ⌜ f .0 < 32 ⌝ }
-    ensures { λ r. ⌜ Puts (valueOf out) (valueOf r) (λ l. everyShows (now (cs .entry)) (valueOf x) (entryIn (valueOf on)) (has roles) l (f .0)) ⌝ }
-{
-    let c = concept_at(cs, f);
-    match c {
-        Concept::Every(t, l) => with_passed(out, x, on, roles, f, t, l),
-        Concept::Top => out,
-        Concept::Name => out,
-        Concept::Both(_, _) => out,
-        Concept::AtLeast(_) => out,
-    }
-}
-
-// The label with what the entries show of a cell that has those roles; `x` is the own label, `on` what it carries on.
-fn with_everys(start: Label, cs: &[u8], x: Label, on: Label, roles: u16) -> Label
-    ensures { λ r. ⌜ Puts (valueOf start) (valueOf r) (λ l. anyBelow (entryCount (now (cs .entry))) (everyShows (now (cs .entry)) (valueOf x) (entryIn (valueOf on)) (has roles) l)) ⌝ }
-{
-    let n = entry_count(cs);
-    let mut out = start;
-    let mut f: u8 = 0;
-    while f < n {
-        out = with_every(out, cs, x, on, roles, EntryNo(f));
-        f += 1;
-    }
-    out
-}
-
-// What is in one of two labels.
-fn join(x: Label, y: Label) -> Label
-    ensures { λ r. ⌜ Puts (valueOf x) (valueOf r) (has (valueOf y)) ⌝ }
-{
-    Label {
-        high: x.high | y.high,
-        low: x.low | y.low,
-    }
-}
-
-// What a row shows of its own cells: its qualifier, and what the entries show by its role alone.
-fn shown_by(cs: &[u8], a: [u16; 16], x: Label, on: Label, row: Row) -> Label
-    ensures { λ r. ⌜ valueOf r ≡ shownBy (now (cs .entry)) a (valueOf x) (entryIn (valueOf on)) (given row) ⌝ }
-{
-    let start = put(Label { high: 0, low: 0 }, row.qualifier);
-    with_everys(start, cs, x, on, a[(row.role.0 % 16) as usize])
-}
-
-// What each of the first `k` rows shows of its own cells.
-fn shown_of(cs: &[u8], a: [u16; 16], x: Label, on: Label, rows: [Row; 6], k: u8) -> [Label; 6]
-    requires { ⌜ k ≤ 6 ⌝ }
-    ensures { λ r. ⌜ Labels (λ i. shownBy (now (cs .entry)) a (valueOf x) (entryIn (valueOf on)) (given (heldAt rows i))) k r ⌝ }
-{
-    let none = Label { high: 0, low: 0 };
-    let mut out = [none; 6];
-    let mut i: u8 = 0;
-    while i < k {
-        out[i as usize] = shown_by(cs, a, x, on, row_at(rows, k, i));
-        i += 1;
-    }
-    out
-}
-
-// The opposite of a row's qualifier.
-fn denied_by(row: Row) -> Label
-    ensures { λ r. ⌜ valueOf r ≡ deniedBy (given row) ⌝ }
-{
-    put(Label { high: 0, low: 0 }, opposite(row.qualifier))
-}
-
-// What each of the first `k` rows shows of other cells that have its role.
-fn against_of(rows: [Row; 6], k: u8) -> [Label; 6]
-    requires { ⌜ k ≤ 6 ⌝ }
-    ensures { λ r. ⌜ Labels (λ i. deniedBy (given (heldAt rows i))) k r ⌝ }
-{
-    let none = Label { high: 0, low: 0 };
-    let mut out = [none; 6];
-    let mut i: u8 = 0;
-    while i < k {
-        out[i as usize] = denied_by(row_at(rows, k, i));
-        i += 1;
-    }
-    out
+    if asked { join(x, y) } else { x }
 }
 
 // The mask `x`: what a call answers is known to have 16 bits, an element of an array is not.
@@ -176,33 +65,55 @@ fn mask(x: u16) -> u16
     x
 }
 
-// The ancestors of a row's role.
-fn above_by(a: [u16; 16], row: Row) -> u16
-    ensures { λ r. ⌜ (r ≡ aboveOf a (given row)) × (r < 65536) ⌝ }
+// What a row gives to the cells, if it is `there`: the ancestors of its role,
+fn above_by(a: [u16; 16], row: Row, there: bool) -> u16
+    ensures { λ r. ⌜ (r ≡ onlyIf there (aboveOf a (given row))) × (r < 65536) ⌝ }
 {
-    mask(a[(row.role.0 % 16) as usize])
+    if there {
+        mask(a[(row.role.0 % 16) as usize])
+    } else {
+        0
+    }
 }
 
-// The ancestors of the role of each of the first `k` rows.
+// the mask of its role alone, of none if the role is past the masks,
+fn own_by(row: Row, there: bool) -> u16
+    ensures { λ r. ⌜ r ≡ onlyIf there (bitOf (given row)) ⌝ }
+{
+    let r = row.role.0;
+    if !there {
+        return 0;
+    }
+    if r < 16 { 1 << r } else { 0 }
+}
+
+// the opposite of its qualifier,
+fn against_by(row: Row, there: bool) -> u8
+    ensures { λ r. ⌜ r ≡ onlyIf there (deniedBy (given row)) ⌝ }
+{
+    if there { opposite(row.qualifier) } else { 0 }
+}
+
+// and its qualifier.
+fn qualified_by(row: Row, there: bool) -> Label
+    ensures { λ r. ⌜ valueOf r ≡ onlyIf there (labelWith 0 (row .qualifier)) ⌝ }
+{
+    if there { only(row.qualifier) } else { empty() }
+}
+
+// The ancestors of the role of each of the first `k` rows. These loops go to 6 and not to `k`: so known a number is unrolled,
+// and the array lies in no memory of its own.
 fn above_of(a: [u16; 16], rows: [Row; 6], k: u8) -> [u16; 6]
     requires { ⌜ k ≤ 6 ⌝ }
-    ensures { λ r. ⌜ Masks (λ i. aboveOf a (given (heldAt rows i))) k r × ((i : ℕ) → i < k → aboveOf a (given (heldAt rows i)) < 65536) ⌝ }
+    ensures { λ r. ⌜ Masks (λ i. aboveOf a (given (heldAt rows i))) k r × ((i : ℕ) → i < 6 → maskAt r i < 65536) ⌝ }
 {
     let mut out: [u16; 6] = [0; 6];
     let mut i: u8 = 0;
-    while i < k {
-        out[i as usize] = above_by(a, row_at(rows, k, i));
+    while i < 6 {
+        out[i as usize] = above_by(a, row_at(rows, k, i), i < k);
         i += 1;
     }
     out
-}
-
-// The mask of the role of a row alone; of none if the role is past the masks.
-fn own_by(row: Row) -> u16
-    ensures { λ r. ⌜ r ≡ bitOf (given row) ⌝ }
-{
-    let r = row.role.0;
-    if r < 16 { 1 << r } else { 0 }
 }
 
 // The mask of the role of each of the first `k` rows.
@@ -212,9 +123,113 @@ fn own_of(rows: [Row; 6], k: u8) -> [u16; 6]
 {
     let mut out: [u16; 6] = [0; 6];
     let mut i: u8 = 0;
-    while i < k {
-        out[i as usize] = own_by(row_at(rows, k, i));
+    while i < 6 {
+        out[i as usize] = own_by(row_at(rows, k, i), i < k);
         i += 1;
+    }
+    out
+}
+
+// What each of the first `k` rows shows of other cells that have its role.
+fn against_of(rows: [Row; 6], k: u8) -> [u8; 6]
+    requires { ⌜ k ≤ 6 ⌝ }
+    ensures { λ r. ⌜ Masks (λ i. deniedBy (given (heldAt rows i))) k r ⌝ }
+{
+    let mut out: [u8; 6] = [0; 6];
+    let mut i: u8 = 0;
+    while i < 6 {
+        out[i as usize] = against_by(row_at(rows, k, i), i < k);
+        i += 1;
+    }
+    out
+}
+
+// The qualifier of each of the first `k` rows.
+fn qualified_of(rows: [Row; 6], k: u8) -> [Label; 6]
+    requires { ⌜ k ≤ 6 ⌝ }
+    ensures { λ r. ⌜ Labels (λ i. labelWith 0 (heldAt rows i .qualifier)) k r ⌝ }
+{
+    let none = empty();
+    let mut out = [none; 6];
+    let mut i: u8 = 0;
+    while i < 6 {
+        out[i as usize] = qualified_by(row_at(rows, k, i), i < k);
+        i += 1;
+    }
+    out
+}
+
+// What "every t l", entry `f`, shows of a cell that has the role: `l` if the label `x` holds the entry,
+// and itself if the label carries it on.
+fn passed_by(rs: &[u8], cs: &[u8], a: [u16; 16], x: Label, f: EntryNo, t: RoleNo, l: u8) -> Label
+    requires { ⌜ f .0 < mostEntries ⌝ }
+    ensures { λ r. ⌜ Puts 0 (valueOf r) (passes (valueOf x) (carried (now (rs .entry)) (now (cs .entry)) a (valueOf x) (t .0) l) true (f .0) l) ⌝ }
+{
+    let held = holds(x, 2 * f.0);
+    let on = is_carried(rs, cs, a, x, t, l);
+    let out = put_if(empty(), l, held);
+    put_if(out, 2 * f.0, on)
+}
+
+// Each label with `y`, if role `t` is among those above the row's.
+fn with_passed(old: [Label; 6], above: [u16; 6], t: RoleNo, y: Label) -> [Label; 6]
+    requires { ⌜ length old ≡ 6 ⌝ }
+    ensures { λ r. ⌜ Grown old r (λ i l. has (maskAt above i) (t .0) && has (valueOf y) l) ⌝ }
+{
+    let mut out = old;
+    let mut i: u8 = 0;
+    while i < 6 {
+        let x = out[i as usize];
+        out[i as usize] = add_if(x, y, has16(above[i as usize], t.0));
+        i += 1;
+    }
+    out
+}
+
+// Each label with what entry `f` shows of a cell of the row.
+fn with_every(
+    old: [Label; 6],
+    rs: &[u8],
+    cs: &[u8],
+    a: [u16; 16],
+    x: Label,
+    above: [u16; 6],
+    f: EntryNo,
+) -> [Label; 6]
+    requires { ⌜ (length old ≡ 6) × (f .0 < mostEntries) ⌝ }
+    ensures { λ r. ⌜ Grown old r (entryShows (now (rs .entry)) (now (cs .entry)) a (valueOf x) above (f .0)) ⌝ }
+{
+    let c = concept_at(cs, f);
+    match c {
+        Concept::Every(t, l) => with_passed(old, above, t, passed_by(rs, cs, a, x, f, t, l)),
+        Concept::Top => old,
+        Concept::Name => old,
+        Concept::Both(_, _) => old,
+        Concept::AtLeast(_) => old,
+    }
+}
+
+// What each of the first `k` rows shows of its own cells; `above` has the ancestors of their roles.
+// Each entry is read once, not once a row.
+fn shown_of(
+    rs: &[u8],
+    cs: &[u8],
+    a: [u16; 16],
+    x: Label,
+    rows: [Row; 6],
+    k: u8,
+    above: [u16; 6],
+) -> [Label; 6]
+    requires { ⌜ (k ≤ 6) × Masks (λ i. aboveOf a (given (heldAt rows i))) k above ⌝ }
+    ensures { λ r. ⌜ Labels (λ i. shownBy (now (cs .entry)) a (valueOf x) (carriedAt (now (rs .entry)) (now (cs .entry)) a (valueOf x)) (given (heldAt rows i))) k r ⌝ }
+{
+    let n = entry_count(cs);
+    let mut out = qualified_of(rows, k);
+    let mut f: u8 = 0;
+    while f < n {
+        let next = with_every(out, rs, cs, a, x, above, EntryNo(f));
+        out = next;
+        f += 1;
     }
     out
 }
@@ -240,40 +255,33 @@ fn meet(x: u16, y: u16) -> bool
 }
 
 // The label with what a row shows of a cell: `shown` if it is within the row, `against` if it is outside and has the role.
-fn with_row(x: Label, within: bool, shown: Label, reached: bool, against: Label) -> Label
-    ensures { λ r. ⌜ Puts (valueOf x) (valueOf r) (λ l. cond within (has (valueOf shown) l) (reached && has (valueOf against) l)) ⌝ }
+fn with_row(x: Label, within: bool, shown: Label, reached: bool, against: u8) -> Label
+    ensures { λ r. ⌜ Puts (valueOf x) (valueOf r) (λ l. cond within (has (valueOf shown) l) (reached && eqb against l)) ⌝ }
 {
     if within {
         return join(x, shown);
     }
     if reached {
-        return join(x, against);
+        return put(x, against);
     }
     x
 }
 
 // The label that every filler of cell `c` has.
-fn known_label(
-    above: [u16; 6],
-    own: [u16; 6],
-    shown: [Label; 6],
-    against: [Label; 6],
-    c: u8,
-) -> Label
+fn known_label(above: [u16; 6], own: [u16; 6], shown: [Label; 6], against: [u8; 6], c: u8) -> Label
     ensures { λ r. ⌜ valueOf r ≡ gathered above own shown against c ⌝ }
 {
     let roles = cell_roles(above, c);
-    let mut out = put(Label { high: 0, low: 0 }, 0);
+    let mut out = only(0);
     let mut i: u8 = 0;
     while i < 6 {
         let inside = shown[i as usize];
-        let outside = against[i as usize];
         out = with_row(
             out,
             has16(c as u16, i),
             inside,
             meet(roles, own[i as usize]),
-            outside,
+            against[i as usize],
         );
         i += 1;
     }
@@ -286,17 +294,18 @@ fn cell_ok(
     above: [u16; 6],
     own: [u16; 6],
     shown: [Label; 6],
-    against: [Label; 6],
+    against: [u8; 6],
     c: u8,
     cell: u8,
+    f: Layout,
 ) -> bool
-    ensures { λ r. ⌜ r ≡ citedIn (now (s .entry)) (gathered above own shown against c) cell ⌝ }
+    ensures { λ r. ⌜ r ≡ citedIn (labelOf f (now (s .entry))) (gathered above own shown against c) cell ⌝ }
 {
     if cell == 255 {
         return true;
     }
     lies_within(
-        record_label(s, cell),
+        record_label(s, cell, f),
         known_label(above, own, shown, against, c),
     )
 }
@@ -311,20 +320,21 @@ pub fn cells_ok(
     rows: [Row; 6],
     k: u8,
     ds: &[u8],
+    f: Layout,
 ) -> bool
-    ensures { λ r. ⌜ r ≡ cellsCode (now (rs .entry)) (now (cs .entry)) a (now (s .entry)) (valueOf x) (rowsHeld rows (upTo 6 k)) (now (ds .entry)) (upTo 6 k) ⌝ }
+    ensures { λ r. ⌜ r ≡ cellsCode (now (rs .entry)) (now (cs .entry)) a (labelOf f (now (s .entry))) (valueOf x) (rowsHeld rows (upTo 6 k)) (now (ds .entry)) (upTo 6 k) ⌝ }
 {
     let n = up_to(6, k as usize);
-    let end = cell_count(k);
-    let on = carried_entries(rs, cs, a, x);
-    let shown = shown_of(cs, a, x, on, rows, n);
-    let against = against_of(rows, n);
+    // In a byte: on a processor of 32 bits a word of 64 takes a call to be shifted.
+    let end = (cell_count(k) % 256) as u8;
     let above = above_of(a, rows, n);
     let own = own_of(rows, n);
+    let against = against_of(rows, n);
+    let shown = shown_of(rs, cs, a, x, rows, n, above);
     let mut c: u8 = 1;
-    while (c as usize) < end {
-        let cell = byte(ds, 1 + (n as usize) + (c as usize));
-        if !cell_ok(s, above, own, shown, against, c, cell) {
+    while c < end {
+        let cell = byte(ds, (1 + n + c) as usize);
+        if !cell_ok(s, above, own, shown, against, c, cell, f) {
             return false;
         }
         c += 1;

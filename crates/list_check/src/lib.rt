@@ -7,6 +7,7 @@ ghost use Rattle.logic.specs.Refusals.{refuse, refuseFrom};
 ghost use Rattle.description.specs.Literals.{literal};
 ghost use Rattle.tables.specs.Tables.{describe};
 ghost use Rattle.labels.specs.Labels.{valueOf};
+ghost use Rattle.evidence.specs.Evidence.{labelOf, edgesPart};
 ghost use Rattle.refutation.specs.Cells.{rowsOf};
 ghost use Rattle.answers.specs.Answers.{refusalOf};
 ghost use Rattle.list_form.specs.ListForm.{bytesAt};
@@ -15,6 +16,8 @@ ghost use Rattle.list_check.specs.CheckSteps.{formCode, formOf, countCod
 use answers::Tested;
 use cites::within_one;
 use evidence::Head;
+use evidence::Layout;
+use evidence::layout_of;
 use evidence::read_head;
 use evidence::record_edges;
 use evidence::record_label;
@@ -28,19 +31,19 @@ use rows::Row;
 use rows::rows_of;
 
 // Test 10 of record `i`.
-fn form_ok(s: &[u8], i: u8) -> bool
-    ensures { λ r. ⌜ r ≡ formCode (now (s .entry)) i ⌝ }
+fn form_ok(s: &[u8], i: u8, f: Layout) -> bool
+    ensures { λ r. ⌜ r ≡ formCode (edgesPart f (now (s .entry))) i ⌝ }
 {
-    step_form(record_edges(s, i))
+    step_form(record_edges(s, i, f))
 }
 
 // Test 10 of the `n` records.
-fn test_forms(s: &[u8], n: u8) -> Tested
-    ensures { λ r. ⌜ refusalOf r ≡ refuseFrom (formOf (now (s .entry))) n 0 none ⌝ }
+fn test_forms(s: &[u8], n: u8, f: Layout) -> Tested
+    ensures { λ r. ⌜ refusalOf r ≡ refuseFrom (formOf (edgesPart f (now (s .entry)))) n 0 none ⌝ }
 {
     let mut i: u8 = 0;
     while i < n {
-        if !form_ok(s, i) {
+        if !form_ok(s, i, f) {
             return Tested::Refused(10, i);
         }
         i += 1;
@@ -59,11 +62,12 @@ fn test_held(
     ds: &[u8],
     k: u8,
     rows: [Row; 6],
+    f: Layout,
 ) -> Tested
     requires { ⌜ (k ≤ 6) × (rowsHeld rows k ≡ rowsOf (describe [] (now cs) []) (bytesAt literal (now ds) 2 k)) ⌝ }
-    ensures { λ r. ⌜ refusalOf r ≡ refuse i (countCode (now (rs .entry)) (now (cs .entry)) a (now (s .entry)) (valueOf x) (now (ds .entry)) k) none ⌝ }
+    ensures { λ r. ⌜ refusalOf r ≡ refuse i (countCode (now (rs .entry)) (now (cs .entry)) a (labelOf f (now (s .entry))) (valueOf x) (now (ds .entry)) k) none ⌝ }
 {
-    if !cells_ok(rs, cs, a, s, x, rows, k, ds) {
+    if !cells_ok(rs, cs, a, s, x, rows, k, ds, f) {
         return Tested::Refused(18, i);
     }
     if !tree_closes(rows, k, ds) {
@@ -82,11 +86,12 @@ fn test_count(
     x: Label,
     ds: &[u8],
     k: u8,
+    f: Layout,
 ) -> Tested
     requires { ⌜ k ≤ 6 ⌝ }
-    ensures { λ r. ⌜ refusalOf r ≡ refuse i (countCode (now (rs .entry)) (now (cs .entry)) a (now (s .entry)) (valueOf x) (now (ds .entry)) k) none ⌝ }
+    ensures { λ r. ⌜ refusalOf r ≡ refuse i (countCode (now (rs .entry)) (now (cs .entry)) a (labelOf f (now (s .entry))) (valueOf x) (now (ds .entry)) k) none ⌝ }
 {
-    test_held(rs, cs, a, s, i, x, ds, k, rows_of(cs, ds, k))
+    test_held(rs, cs, a, s, i, x, ds, k, rows_of(cs, ds, k), f)
 }
 
 // Tests 10 and 16 to 19 of record `i` with the label `x` and the step `ds`.
@@ -99,33 +104,44 @@ fn test_labelled(
     i: u8,
     x: Label,
     ds: &[u8],
+    f: Layout,
 ) -> Tested
-    ensures { λ r. ⌜ refusalOf r ≡ refuse i (stepCode (now (rs .entry)) (now (cs .entry)) (now (qs .entry)) a (now (s .entry)) i (valueOf x) (now (ds .entry))) none ⌝ }
+    ensures { λ r. ⌜ refusalOf r ≡ refuse i (stepCode (now (rs .entry)) (now (cs .entry)) (now (qs .entry)) a (labelOf f (now (s .entry))) i (valueOf x) (now (ds .entry))) none ⌝ }
 {
-    let t = test_step(cs, qs, s, i, x, ds);
+    let t = test_step(cs, qs, s, i, x, ds, f);
     let Tested::Fine = t else {
         return t;
     };
     if byte(ds, 0) == 6 {
-        return test_count(rs, cs, a, s, i, x, ds, byte(ds, 1));
+        return test_count(rs, cs, a, s, i, x, ds, byte(ds, 1), f);
     }
     Tested::Fine
 }
 
 // Tests 10 and 16 to 19 of record `i`.
-fn test_record(rs: &[u8], cs: &[u8], qs: &[u8], a: [u16; 16], s: &[u8], i: u8) -> Tested
-    ensures { λ r. ⌜ refusalOf r ≡ refuse i (recordCode (now (rs .entry)) (now (cs .entry)) (now (qs .entry)) a (now (s .entry)) i) none ⌝ }
+fn test_record(rs: &[u8], cs: &[u8], qs: &[u8], a: [u16; 16], s: &[u8], i: u8, f: Layout) -> Tested
+    ensures { λ r. ⌜ refusalOf r ≡ refuse i (recordCode (now (rs .entry)) (now (cs .entry)) (now (qs .entry)) a (labelOf f (now (s .entry))) (edgesPart f (now (s .entry))) i) none ⌝ }
 {
-    test_labelled(rs, cs, qs, a, s, i, record_label(s, i), record_edges(s, i))
+    test_labelled(
+        rs,
+        cs,
+        qs,
+        a,
+        s,
+        i,
+        record_label(s, i, f),
+        record_edges(s, i, f),
+        f,
+    )
 }
 
 // Tests 10 and 16 to 19 of the `n` records, rising.
-fn test_records(rs: &[u8], cs: &[u8], qs: &[u8], a: [u16; 16], s: &[u8], n: u8) -> Tested
-    ensures { λ r. ⌜ refusalOf r ≡ refuseFrom (recordCode (now (rs .entry)) (now (cs .entry)) (now (qs .entry)) a (now (s .entry))) n 0 none ⌝ }
+fn test_records(rs: &[u8], cs: &[u8], qs: &[u8], a: [u16; 16], s: &[u8], n: u8, f: Layout) -> Tested
+    ensures { λ r. ⌜ refusalOf r ≡ refuseFrom (recordCode (now (rs .entry)) (now (cs .entry)) (now (qs .entry)) a (labelOf f (now (s .entry))) (edgesPart f (now (s .entry)))) n 0 none ⌝ }
 {
     let mut i: u8 = 0;
     while i < n {
-        let t = test_record(rs, cs, qs, a, s, i);
+        let t = test_record(rs, cs, qs, a, s, i, f);
         let Tested::Fine = t else {
             return t;
         };
@@ -135,29 +151,38 @@ fn test_records(rs: &[u8], cs: &[u8], qs: &[u8], a: [u16; 16], s: &[u8], n: u8) 
 }
 
 // Test 20: the label of record `last` holds nothing but literal 0 and what is wanted.
-fn test_end(want: Label, s: &[u8], last: u8) -> Tested
-    ensures { λ r. ⌜ refusalOf r ≡ refuse last (endCode (valueOf want) (now (s .entry)) last) none ⌝ }
+fn test_end(want: Label, s: &[u8], last: u8, f: Layout) -> Tested
+    ensures { λ r. ⌜ refusalOf r ≡ refuse last (endCode (valueOf want) (labelOf f (now (s .entry))) last) none ⌝ }
 {
-    if !within_one(s, last, want, 0) {
+    if !within_one(s, last, want, 0, f) {
         return Tested::Refused(20, last);
     }
     Tested::Fine
 }
 
 // Tests 10 and 16 to 20 of the `n` records.
-fn test_all(rs: &[u8], cs: &[u8], qs: &[u8], a: [u16; 16], want: Label, s: &[u8], n: u8) -> Tested
+fn test_all(
+    rs: &[u8],
+    cs: &[u8],
+    qs: &[u8],
+    a: [u16; 16],
+    want: Label,
+    s: &[u8],
+    n: u8,
+    f: Layout,
+) -> Tested
     requires { ⌜ 1 ≤ n ⌝ }
-    ensures { λ r. ⌜ refusalOf r ≡ recordsCode (now (rs .entry)) (now (cs .entry)) (now (qs .entry)) a (valueOf want) (now (s .entry)) n ⌝ }
+    ensures { λ r. ⌜ refusalOf r ≡ recordsCode (now (rs .entry)) (now (cs .entry)) (now (qs .entry)) a (valueOf want) (labelOf f (now (s .entry))) (edgesPart f (now (s .entry))) n ⌝ }
 {
-    let t = test_forms(s, n);
+    let t = test_forms(s, n, f);
     let Tested::Fine = t else {
         return t;
     };
-    let u = test_records(rs, cs, qs, a, s, n);
+    let u = test_records(rs, cs, qs, a, s, n, f);
     let Tested::Fine = u else {
         return u;
     };
-    test_end(want, s, n - 1)
+    test_end(want, s, n - 1, f)
 }
 
 // Tests 9, 10 and 16 to 20 of the list `s`, which is to end within literal 0 and `want`, if `a` holds the ancestors of each role.
@@ -166,7 +191,7 @@ pub fn test_list(rs: &[u8], cs: &[u8], qs: &[u8], a: [u16; 16], want: Label, s: 
 {
     let head = read_head(s);
     match head {
-        Head::RefutationOf(n) => test_all(rs, cs, qs, a, want, s, n),
+        Head::RefutationOf(n) => test_all(rs, cs, qs, a, want, s, n, layout_of(cs)),
         Head::GraphOf(_) => Tested::Refused(9, 0),
         Head::Off => Tested::Refused(9, 0),
     }

@@ -27,7 +27,7 @@ use Rattle.refutation.specs.Cells.{isRow}
 use Rattle.refutation.specs.RecordTests.{citeTest, stepTest}
 use Rattle.answers.specs.declared.Tested.the-variants.{Fine, Refused}
 use Rattle.answers.specs.Answers.{refusalOf}
-use Rattle.evidence.specs.Evidence.{labelOf}
+use Rattle.labels.specs.Labels.{mostEntries, mostLiterals}
 use Rattle.nodes.specs.NodeSteps.{opposed, entryCount}
 use Rattle.cites.specs.Cites.{ofEntry, namedRefusal}
 use Rattle.rows.specs.HeldRows.{row-same}
@@ -48,11 +48,11 @@ stepRefusal D num i N (some x) = unless (narrow N (2 * D .entries)) 16 (namedRef
 
 -- ---- laws for the code
 -- entries and their complements in a label
-module _ (N e : ℕ) (few : N < 2 ^ 64) where
-  pub past-case : (denied : Bool) → 128 ≤ e → false ≡ members N (ofEntry e denied)
+module _ (N e : ℕ) (few : N < 2 ^ mostLiterals) where
+  pub past-case : (denied : Bool) → mostEntries ≤ e → false ≡ members N (ofEntry e denied)
   unfolding members
-  past-case true h = sym (so-false _ (λ u. let w = has-lt 64 N (2 * e + 1) few u in omega arith))
-  past-case false h = sym (so-false _ (λ u. let w = has-lt 64 N (2 * e) few u in omega arith))
+  past-case true h = sym (so-false _ (λ u. let w = has-lt mostLiterals N (2 * e + 1) few u in omega arith))
+  past-case false h = sym (so-false _ (λ u. let w = has-lt mostLiterals N (2 * e) few u in omega arith))
 
 pub case-odd : (N e : ℕ) (denied : Bool) → denied ≡ true → has N (2 * e + 1) ≡ members N (ofEntry e denied)
 unfolding members
@@ -104,12 +104,9 @@ module _ (D : Description) (num : ℕ → ℕ) (i N : ℕ) (x : Step) where
   named-fine p e = rw (p, e) refl
 
 -- ---- 16 and 17 of each step, from the tests that the code makes
-module _ (cs qs s : List ℕ) (i N : ℕ) where
+module _ (cs qs : List ℕ) (num : ℕ → ℕ) (i N : ℕ) where
   abbrev D : Description
   D = describe [] cs qs
-
-  abbrev num : ℕ → ℕ
-  num = labelOf s
 
   pub cite-1 : (l : ℕ) (a : Bool) → ltb (l / 2) (length cs / 6) ≡ a → citeTest D num i N (contradiction (literal l)) ≡ a
   unfolding citeTest
@@ -163,29 +160,29 @@ module _ (cs qs s : List ℕ) (i N : ℕ) where
   follows-5 e c d j k a b p o q r = rw (← p, ← o, q, r) refl
 
 -- ---- the step that the bytes are, by its first byte
-module _ (cs qs s ds : List ℕ) (i N : ℕ) (f : formed (stepIn ds) ≡ true) where
+module _ (cs qs : List ℕ) (num : ℕ → ℕ) (ds : List ℕ) (i N : ℕ) (f : formed (stepIn ds) ≡ true) where
   abbrev whole : Option Refusal
-  whole = refuse i (stepNamed (describe [] cs qs) (labelOf s) i N (stepIn ds)) none
+  whole = refuse i (stepNamed (describe [] cs qs) num i N (stepIn ds)) none
 
-  abbrev step : List ℕ → List ℕ → Step → Option Refusal
-  step qs′ s′ x = refuse i (namedRefusal (describe [] cs qs′) (labelOf s′) i N x) none
+  abbrev step : List ℕ → (ℕ → ℕ) → Step → Option Refusal
+  step qs′ lab x = refuse i (namedRefusal (describe [] cs qs′) lab i N x) none
 
-  pub by-1 : (a : ℕ) → byteAt ds 0 ≡ 1 → a ≡ byteAt ds 1 → step [] [] (contradiction (literal a)) ≡ whole
+  pub by-1 : (a : ℕ) → byteAt ds 0 ≡ 1 → a ≡ byteAt ds 1 → step [] (λ j. 0) (contradiction (literal a)) ≡ whole
   unfolding namedRefusal citeTest stepTest
   by-1 a e p = rw (p, step-1-is ds f e) refl
 
-  pub by-2 : (a b : ℕ) → byteAt ds 0 ≡ 2 → a ≡ byteAt ds 1 → b ≡ byteAt ds 2 → step [] s (conjunction a b) ≡ whole
+  pub by-2 : (a b : ℕ) → byteAt ds 0 ≡ 2 → a ≡ byteAt ds 1 → b ≡ byteAt ds 2 → step [] num (conjunction a b) ≡ whole
   unfolding namedRefusal citeTest stepTest
   by-2 a b e p q = rw (p, q, step-2-is ds f e) refl
 
-  pub by-3 : (a b c : ℕ) → byteAt ds 0 ≡ 3 → a ≡ byteAt ds 1 → b ≡ byteAt ds 2 → c ≡ byteAt ds 3 → step [] s (disjunction a b c) ≡ whole
+  pub by-3 : (a b c : ℕ) → byteAt ds 0 ≡ 3 → a ≡ byteAt ds 1 → b ≡ byteAt ds 2 → c ≡ byteAt ds 3 → step [] num (disjunction a b c) ≡ whole
   unfolding namedRefusal citeTest stepTest
   by-3 a b c e p q r = rw (p, q, r, step-3-is ds f e) refl
 
-  pub by-4 : (a b : ℕ) → byteAt ds 0 ≡ 4 → a ≡ byteAt ds 1 → b ≡ byteAt ds 2 → step qs s (byRule a b) ≡ whole
+  pub by-4 : (a b : ℕ) → byteAt ds 0 ≡ 4 → a ≡ byteAt ds 1 → b ≡ byteAt ds 2 → step qs num (byRule a b) ≡ whole
   by-4 a b e p q = rw (p, q, step-4-is ds f e) refl
 
-  pub by-5 : (a b c : ℕ) → byteAt ds 0 ≡ 5 → a ≡ byteAt ds 1 → b ≡ byteAt ds 2 → c ≡ byteAt ds 3 → step [] s (caseSplit a b c) ≡ whole
+  pub by-5 : (a b c : ℕ) → byteAt ds 0 ≡ 5 → a ≡ byteAt ds 1 → b ≡ byteAt ds 2 → c ≡ byteAt ds 3 → step [] num (caseSplit a b c) ≡ whole
   unfolding namedRefusal citeTest stepTest
   by-5 a b c e p q r = rw (p, q, r, step-5-is ds f e) refl
 
@@ -210,9 +207,10 @@ module _ (D : Description) (num : ℕ → ℕ) (i N : ℕ) where
   label-on none h e = absurd (false≢true h)
   label-on (some x) h e = rw e refl
 
--- a label of 64 bits lies in any table of 32 entries and more
-pub table-wide : (cs : List ℕ) (N n : ℕ) → N < 2 ^ 64 → n ≡ entryCount cs → narrow N (2 * n) ≡ narrow N (2 * (length cs / 6))
-table-wide cs N n few p = elim (decLe 32 (length cs / 6)) [
-  | yes q ↦ rw (p, ← up-to-most 32 (length cs / 6) q) (sym (narrow-whole 64 N 64 few (omega arith)) ∙ narrow-whole 64 N (2 * (length cs / 6)) few (omega arith))
-  | no q ↦ rw (p, up-to-all 32 (length cs / 6) (let z : length cs / 6 ≤ 32 = omega arith in z)) refl
+-- a label lies in any table of the most entries and more
+pub table-wide : (cs : List ℕ) (N n : ℕ) → N < 2 ^ mostLiterals → n ≡ entryCount cs → narrow N (2 * n) ≡ narrow N (2 * (length cs / 6))
+table-wide cs N n few p = elim (decLe mostEntries (length cs / 6)) [
+  | yes q ↦ rw (p, ← up-to-most mostEntries (length cs / 6) q)
+      (sym (narrow-whole mostLiterals N (2 * mostEntries) few (omega arith)) ∙ narrow-whole mostLiterals N (2 * (length cs / 6)) few (omega arith))
+  | no q ↦ rw (p, up-to-all mostEntries (length cs / 6) (let z : length cs / 6 ≤ mostEntries = omega arith in z)) refl
 ]

@@ -25,7 +25,9 @@ use cites::look_up;
 use cites::within_case;
 use cites::within_one;
 use cites::within_two;
+use evidence::Layout;
 use labels::Label;
+use labels::MOST_ENTRIES;
 use labels::below;
 use labels::holds;
 use list_form::step_form;
@@ -48,7 +50,7 @@ fn entry_in(cs: &[u8], e: EntryNo) -> bool
 fn holds_case(x: Label, e: EntryNo, denied: bool) -> bool
     ensures { λ r. ⌜ r ≡ members (valueOf x) (ofEntry (e .0) denied) ⌝ }
 {
-    if 128 <= e.0 {
+    if MOST_ENTRIES <= e.0 {
         return false;
     }
     if denied {
@@ -67,7 +69,7 @@ fn in_label(x: Label, l: u8) -> bool
 
 // Step 1, of literal `l`: the label contradicts itself.
 fn step_1(cs: &[u8], i: u8, x: Label, l: u8) -> Tested
-    ensures { λ r. ⌜ refusalOf r ≡ refuse i (namedRefusal (describe [] (now (cs .entry)) []) (labelOf []) i (valueOf x) (contradiction (literal l))) none ⌝ }
+    ensures { λ r. ⌜ refusalOf r ≡ refuse i (namedRefusal (describe [] (now (cs .entry)) []) (λ j. 0) i (valueOf x) (contradiction (literal l))) none ⌝ }
 {
     if !entry_in(cs, EntryNo(l / 2)) {
         return Tested::Refused(16, i);
@@ -82,12 +84,12 @@ fn step_1(cs: &[u8], i: u8, x: Label, l: u8) -> Tested
 }
 
 // Whether entry `e` is a "both" and the label of record `c` lies within `x` with its two literals.
-fn both_within(cs: &[u8], s: &[u8], x: Label, e: EntryNo, c: u8) -> bool
-    ensures { λ r. ⌜ r ≡ isBoth (λ a b. within (labelOf (now (s .entry)) c) (adding (adding (valueOf x) a) b)) (entryOfFields (fieldsAt (now (cs .entry)) (e .0))) ⌝ }
+fn both_within(cs: &[u8], s: &[u8], x: Label, e: EntryNo, c: u8, f: Layout) -> bool
+    ensures { λ r. ⌜ r ≡ isBoth (λ a b. within (labelOf f (now (s .entry)) c) (adding (adding (valueOf x) a) b)) (entryOfFields (fieldsAt (now (cs .entry)) (e .0))) ⌝ }
 {
     let concept = concept_at(cs, e);
     match concept {
-        Concept::Both(a, b) => within_two(s, c, x, a, b),
+        Concept::Both(a, b) => within_two(s, c, x, a, b, f),
         Concept::Top => false,
         Concept::Name => false,
         Concept::Every(_, _) => false,
@@ -96,8 +98,8 @@ fn both_within(cs: &[u8], s: &[u8], x: Label, e: EntryNo, c: u8) -> bool
 }
 
 // Step 2, by the "both" `e` of the label.
-fn step_2(cs: &[u8], s: &[u8], i: u8, x: Label, e: EntryNo, c: u8) -> Tested
-    ensures { λ r. ⌜ refusalOf r ≡ refuse i (namedRefusal (describe [] (now (cs .entry)) []) (labelOf (now (s .entry))) i (valueOf x) (conjunction (e .0) c)) none ⌝ }
+fn step_2(cs: &[u8], s: &[u8], i: u8, x: Label, e: EntryNo, c: u8, f: Layout) -> Tested
+    ensures { λ r. ⌜ refusalOf r ≡ refuse i (namedRefusal (describe [] (now (cs .entry)) []) (labelOf f (now (s .entry))) i (valueOf x) (conjunction (e .0) c)) none ⌝ }
 {
     if !entry_in(cs, e) {
         return Tested::Refused(16, i);
@@ -109,20 +111,20 @@ fn step_2(cs: &[u8], s: &[u8], i: u8, x: Label, e: EntryNo, c: u8) -> Tested
     if !holds_case(x, e, false) {
         return Tested::Refused(17, i);
     }
-    if !both_within(cs, s, x, e, first) {
+    if !both_within(cs, s, x, e, first, f) {
         return Tested::Refused(17, i);
     }
     Tested::Fine
 }
 
 // Whether entry `e` is a "both" and the labels of records `c` and `d` lie within `x` with the opposite of its first literal, of its second.
-fn sides_within(cs: &[u8], s: &[u8], x: Label, e: EntryNo, c: u8, d: u8) -> bool
-    ensures { λ r. ⌜ r ≡ isBoth (λ a b. within (labelOf (now (s .entry)) c) (adding (valueOf x) (opposite a)) && within (labelOf (now (s .entry)) d) (adding (valueOf x) (opposite b))) (entryOfFields (fieldsAt (now (cs .entry)) (e .0))) ⌝ }
+fn sides_within(cs: &[u8], s: &[u8], x: Label, e: EntryNo, c: u8, d: u8, f: Layout) -> bool
+    ensures { λ r. ⌜ r ≡ isBoth (λ a b. within (labelOf f (now (s .entry)) c) (adding (valueOf x) (opposite a)) && within (labelOf f (now (s .entry)) d) (adding (valueOf x) (opposite b))) (entryOfFields (fieldsAt (now (cs .entry)) (e .0))) ⌝ }
 {
     let concept = concept_at(cs, e);
     match concept {
         Concept::Both(a, b) => {
-            within_one(s, c, x, opposite(a)) & within_one(s, d, x, opposite(b))
+            within_one(s, c, x, opposite(a), f) & within_one(s, d, x, opposite(b), f)
         }
         Concept::Top => false,
         Concept::Name => false,
@@ -132,8 +134,8 @@ fn sides_within(cs: &[u8], s: &[u8], x: Label, e: EntryNo, c: u8, d: u8) -> bool
 }
 
 // Step 3, by the "both" `e` that the label denies.
-fn step_3(cs: &[u8], s: &[u8], i: u8, x: Label, e: EntryNo, c: u8, d: u8) -> Tested
-    ensures { λ r. ⌜ refusalOf r ≡ refuse i (namedRefusal (describe [] (now (cs .entry)) []) (labelOf (now (s .entry))) i (valueOf x) (disjunction (e .0) c d)) none ⌝ }
+fn step_3(cs: &[u8], s: &[u8], i: u8, x: Label, e: EntryNo, c: u8, d: u8, f: Layout) -> Tested
+    ensures { λ r. ⌜ refusalOf r ≡ refuse i (namedRefusal (describe [] (now (cs .entry)) []) (labelOf f (now (s .entry))) i (valueOf x) (disjunction (e .0) c d)) none ⌝ }
 {
     if !entry_in(cs, e) {
         return Tested::Refused(16, i);
@@ -149,15 +151,15 @@ fn step_3(cs: &[u8], s: &[u8], i: u8, x: Label, e: EntryNo, c: u8, d: u8) -> Tes
     if !holds_case(x, e, true) {
         return Tested::Refused(17, i);
     }
-    if !sides_within(cs, s, x, e, first, second) {
+    if !sides_within(cs, s, x, e, first, second, f) {
         return Tested::Refused(17, i);
     }
     Tested::Fine
 }
 
 // Step 4, by rule `q`.
-fn step_4(cs: &[u8], qs: &[u8], s: &[u8], i: u8, x: Label, q: u8, c: u8) -> Tested
-    ensures { λ r. ⌜ refusalOf r ≡ refuse i (namedRefusal (describe [] (now (cs .entry)) (now (qs .entry))) (labelOf (now (s .entry))) i (valueOf x) (byRule q c)) none ⌝ }
+fn step_4(cs: &[u8], qs: &[u8], s: &[u8], i: u8, x: Label, q: u8, c: u8, f: Layout) -> Tested
+    ensures { λ r. ⌜ refusalOf r ≡ refuse i (namedRefusal (describe [] (now (cs .entry)) (now (qs .entry))) (labelOf f (now (s .entry))) i (valueOf x) (byRule q c)) none ⌝ }
 {
     let n = qs.len();
     if n <= (q as usize) + 1 {
@@ -167,15 +169,15 @@ fn step_4(cs: &[u8], qs: &[u8], s: &[u8], i: u8, x: Label, q: u8, c: u8) -> Test
     let Cite::Earlier(first) = found else {
         return Tested::Refused(16, i);
     };
-    if !within_one(s, first, x, byte(qs, (q as usize) + 1)) {
+    if !within_one(s, first, x, byte(qs, (q as usize) + 1), f) {
         return Tested::Refused(17, i);
     }
     Tested::Fine
 }
 
 // Step 5, by both cases of entry `e`.
-fn step_5(cs: &[u8], s: &[u8], i: u8, x: Label, e: EntryNo, c: u8, d: u8) -> Tested
-    ensures { λ r. ⌜ refusalOf r ≡ refuse i (namedRefusal (describe [] (now (cs .entry)) []) (labelOf (now (s .entry))) i (valueOf x) (caseSplit (e .0) c d)) none ⌝ }
+fn step_5(cs: &[u8], s: &[u8], i: u8, x: Label, e: EntryNo, c: u8, d: u8, f: Layout) -> Tested
+    ensures { λ r. ⌜ refusalOf r ≡ refuse i (namedRefusal (describe [] (now (cs .entry)) []) (labelOf f (now (s .entry))) i (valueOf x) (caseSplit (e .0) c d)) none ⌝ }
 {
     if !entry_in(cs, e) {
         return Tested::Refused(16, i);
@@ -188,19 +190,19 @@ fn step_5(cs: &[u8], s: &[u8], i: u8, x: Label, e: EntryNo, c: u8, d: u8) -> Tes
     let Cite::Earlier(second) = other else {
         return Tested::Refused(16, i);
     };
-    if !within_case(s, first, x, e, false) {
+    if !within_case(s, first, x, e, false, f) {
         return Tested::Refused(17, i);
     }
-    if !within_case(s, second, x, e, true) {
+    if !within_case(s, second, x, e, true, f) {
         return Tested::Refused(17, i);
     }
     Tested::Fine
 }
 
 // 16 and 17 of the step `ds`, whose form was tested.
-fn test_named(cs: &[u8], qs: &[u8], s: &[u8], i: u8, x: Label, ds: &[u8]) -> Tested
+fn test_named(cs: &[u8], qs: &[u8], s: &[u8], i: u8, x: Label, ds: &[u8], f: Layout) -> Tested
     requires { ⌜ formed (stepIn (now ds)) ≡ true ⌝ }
-    ensures { λ r. ⌜ refusalOf r ≡ refuse i (stepNamed (describe [] (now (cs .entry)) (now (qs .entry))) (labelOf (now (s .entry))) i (valueOf x) (stepIn (now (ds .entry)))) none ⌝ }
+    ensures { λ r. ⌜ refusalOf r ≡ refuse i (stepNamed (describe [] (now (cs .entry)) (now (qs .entry))) (labelOf f (now (s .entry))) i (valueOf x) (stepIn (now (ds .entry)))) none ⌝ }
 {
     let step = byte(ds, 0);
     let a = byte(ds, 1);
@@ -208,17 +210,17 @@ fn test_named(cs: &[u8], qs: &[u8], s: &[u8], i: u8, x: Label, ds: &[u8]) -> Tes
     let c = byte(ds, 3);
     match step {
         1 => step_1(cs, i, x, a),
-        2 => step_2(cs, s, i, x, EntryNo(a), b),
-        3 => step_3(cs, s, i, x, EntryNo(a), b, c),
-        4 => step_4(cs, qs, s, i, x, a, b),
-        5 => step_5(cs, s, i, x, EntryNo(a), b, c),
+        2 => step_2(cs, s, i, x, EntryNo(a), b, f),
+        3 => step_3(cs, s, i, x, EntryNo(a), b, c, f),
+        4 => step_4(cs, qs, s, i, x, a, b, f),
+        5 => step_5(cs, s, i, x, EntryNo(a), b, c, f),
         _ => test_rows(cs, i, x, ds, a),
     }
 }
 
 // 10, 16 and 17 of record `i` with the label `x` and the step `ds`.
-pub fn test_step(cs: &[u8], qs: &[u8], s: &[u8], i: u8, x: Label, ds: &[u8]) -> Tested
-    ensures { λ r. ⌜ refusalOf r ≡ refuse i (stepRefusal (describe [] (now (cs .entry)) (now (qs .entry))) (labelOf (now (s .entry))) i (valueOf x) (stepIn (now (ds .entry)))) none ⌝ }
+pub fn test_step(cs: &[u8], qs: &[u8], s: &[u8], i: u8, x: Label, ds: &[u8], f: Layout) -> Tested
+    ensures { λ r. ⌜ refusalOf r ≡ refuse i (stepRefusal (describe [] (now (cs .entry)) (now (qs .entry))) (labelOf f (now (s .entry))) i (valueOf x) (stepIn (now (ds .entry)))) none ⌝ }
 {
     if !step_form(ds) {
         return Tested::Refused(10, i);
@@ -226,5 +228,5 @@ pub fn test_step(cs: &[u8], qs: &[u8], s: &[u8], i: u8, x: Label, ds: &[u8]) -> 
     if !below(x, 2 * entry_count(cs)) {
         return Tested::Refused(16, i);
     }
-    test_named(cs, qs, s, i, x, ds)
+    test_named(cs, qs, s, i, x, ds, f)
 }

@@ -13,6 +13,7 @@ ghost use Rattle.refutation.specs.Cells.{bounds};
 ghost use Rattle.rows.specs.HeldRows.{rowsHeld};
 ghost use Rattle.list_leaf.specs.Leaf.{limitsHeld, marked};
 ghost use Rattle.list_leaf.specs.OpenLaws.{Among};
+ghost use Rattle.list_tree.specs.declared.Fit.the-variants.{Splitting};
 ghost use Rattle.list_tree.specs.TreeSteps.{rowLimit, meant, fitNode, fitRefusal, isFit, closedIn, endOf};
 ghost use Rattle.list_tree.specs.ListTree.{valueFits, closingIn};
 use list_form::Node;
@@ -160,6 +161,21 @@ fn closes_at(
     }
 }
 
+// Where the tree ends whose root at `at` is a split that fits under the `k` rows, if it closes; 0 if it does not.
+fn halves_close(ds: &[u8], marks: &[bool; 64], k: u8, way: [Limit; 14], at: usize) -> usize
+    requires { ⌜ (k ≤ 6) × (length way ≡ 14) × Among k (now marks) × (Splitting ≡ fitNode (now ds) k (marked (now marks)) k (limitsHeld k way k) at) ⌝ }
+    ensures { λ r. ⌜ r ≡ endOf (closedIn (now (ds .entry)) k (marked (now (marks .entry))) 8 k (limitsHeld k way k) at) ⌝ }
+{
+    let mut path = way;
+    path[k as usize] = low_half(ds, at);
+    let next = closes_at(ds, marks, k, 7, path, k + 1, at + 4);
+    if next == 0 {
+        return 0;
+    }
+    path[k as usize] = high_half(ds, at);
+    closes_at(ds, marks, k, 7, path, k + 1, next)
+}
+
 // Whether the tree of the step `ds` closes its `k` rows over the open cells: test 19.
 pub fn tree_closes(rows: [Row; 6], k: u8, ds: &[u8]) -> bool
     ensures { λ r. ⌜ r ≡ closingIn (bounds (rowsHeld rows k)) (now (ds .entry)) k ⌝ }
@@ -174,11 +190,12 @@ pub fn tree_closes(rows: [Row; 6], k: u8, ds: &[u8]) -> bool
     }
     let way = row_limits(rows, k);
     let marks = open_cells(&ds[from..start], k);
-    // The root is looked at here too, so that a leaf's sums lie once above the deepest split and not on every level (docs/COST.md).
+    // The root is looked at here too, so that a leaf's sums lie once above the deepest split and not on every level (docs/COST.md);
+    // and split here, so that the deepest tree takes one level less.
     let root = fit_node(ds, &marks, k, way, k, start);
     match root {
         Fit::Unfit => false,
         Fit::Closing(end) => 0 < end,
-        Fit::Splitting => 0 < closes_at(ds, &marks, k, 8, way, k, start),
+        Fit::Splitting => 0 < halves_close(ds, &marks, k, way, start),
     }
 }

@@ -15,8 +15,8 @@ use Rattle.logic.specs.Bounded.{allBelow, all-cong, all-intro, all-elim}
 use Rattle.logic.specs.Sets.{has, narrow, within, with}
 use Rattle.logic.specs.SetLaws.{has-suc, has-lt, no-member, some-member, and-members, narrow↔, within↔, with↔}
 use Rattle.parts.specs.Numbers.{byteAt, upTo}
-use Rattle.labels.specs.Blocks.{block, has-low, has-high}
-use Rattle.labels.specs.Labels.{labelWith}
+use Rattle.labels.specs.Labels.{mostEntries, mostLiterals, labelWith}
+use Rattle.labels.specs.Words.{unopposed}
 use Rattle.description.specs.Literals.{Literal, opposite, code, literal, entryOf, adding, literalSet, members, code-literal, literal-code, code-entry, within-set}
 use Rattle.description.specs.Descriptions.{Entry, top, name, both, every, atLeast, entryOfFields, ifBoth, wanted}
 use Rattle.tables.specs.Tables.{fieldsAt, describe}
@@ -30,13 +30,9 @@ abbrev pub opposed : ℕ → ℕ
 opposed l = code (opposite (literal l))
 
 -- ---- 11
--- entry e and its complement are not both in the label N
-abbrev pub unopposed : ℕ → ℕ → Bool
-unopposed N e = has N (2 * e) ⇒ not (has N (2 * e + 1))
-
--- the number of entries of the part cs, at most 32
+-- the number of entries of the part cs, at most the most that a table has
 abbrev pub entryCount : List ℕ → ℕ
-entryCount cs = upTo 32 (length cs / 6)
+entryCount cs = upTo mostEntries (length cs / 6)
 
 -- the set M with the first i rules put in
 unfoldable pub withRules : List ℕ → ℕ → ℕ → ℕ
@@ -55,74 +51,20 @@ labelCode n N M = narrow N (2 * n) && (within M N && allBelow n (unopposed N))
 abbrev pub rootSet : List ℕ → ℕ
 rootSet qs = labelWith 0 (byteAt qs 0)
 
--- ---- no literal with its opposite, by words
--- the even numbers below 32, as a set
-evens-in : So (allBelow 16 (λ e. has 1431655765 (2 * e)))
-unfolding allBelow has
-evens-in = refl
-
-evens-even : So (allBelow 32 (λ i. has 1431655765 i ⇒ eqb (i % 2) 0))
-unfolding allBelow has
-evens-even = refl
-
--- where they are in a set of 32 with the next number
-pub word-apart : (x : ℕ) → eqb (bitAnd (bitAnd x (x / 2)) 1431655765) 0 ≡ allBelow 16 (unopposed x)
-word-apart x = same-test _ _ there back
-  where
-    met : (i : ℕ) → So (has (bitAnd (bitAnd x (x / 2)) 1431655765) i) ↔ ((So (has x i) × So (has x (suc i))) × So (has 1431655765 i))
-    met i = simp (and-members, has-suc) Iff·rfl
-
-    there : So (eqb (bitAnd (bitAnd x (x / 2)) 1431655765) 0) → So (allBelow 16 (unopposed x))
-    there u = all-intro 16 (unopposed x) (λ e l. imp↔ (has x (2 * e)) _ .1 (λ p. not↔ (has x (2 * e + 1)) .1 (λ q.
-        let z : 2 * e + 1 ≡ suc (2 * e) = omega arith in
-        no-member (2 * e) (subst (λ n. So (has n (2 * e))) (so-eqb _ 0 u) (met (2 * e) .1 ((p, subst (λ k. So (has x k)) z q), all-elim 16 _ evens-in e l))))))
-
-    back : So (allBelow 16 (unopposed x)) → So (eqb (bitAnd (bitAnd x (x / 2)) 1431655765) 0)
-    back u = elim (decLt 0 (bitAnd (bitAnd x (x / 2)) 1431655765)) [
-      | yes p ↦ absurd (clash (some-member _ p))
-      | no p ↦ let z : bitAnd (bitAnd x (x / 2)) 1431655765 ≡ 0 = omega arith in eqb↔ _ 0 .1 z
-    ]
-      where
-        clash : (i : ℕ) × So (has (bitAnd (bitAnd x (x / 2)) 1431655765) i) → ⊥
-        clash w = let i = w .0 in let m = met i .0 (w .1) in let l = has-lt 32 1431655765 i (omega arith) (m .1) in
-            let z = so-eqb (i % 2) 0 (imp↔ _ _ .0 (all-elim 32 _ evens-even i l) (m .1)) in
-            let e : 2 * (i / 2) ≡ i = omega arith in let f : 2 * (i / 2) + 1 ≡ suc i = omega arith in
-            not↔ (has x (2 * (i / 2) + 1)) .0
-            (imp↔ (has x (2 * (i / 2))) _ .0 (all-elim 16 (unopposed x) u (i / 2) (omega arith)) (subst (λ k. So (has x k)) (sym e) (m .0 .0)))
-            (subst (λ k. So (has x k)) (sym f) (m .0 .1))
-
--- of two words
-pub words-apart : (hi lo : ℕ) → lo < 2 ^ 32 → (allBelow 16 (unopposed lo) && allBelow 16 (unopposed hi)) ≡ allBelow 32 (unopposed (block 32 hi lo))
-words-apart hi lo h = same-test _ _
-    (λ u. all-intro 32 _ (λ e l. elim (decLt e 16) [
-      | yes p ↦ subst So (low e p) (all-elim 16 (unopposed lo) (and-l _ _ u) e p)
-      | no p ↦ subst So (high e (omega arith)) (all-elim 16 (unopposed hi) (and-r (allBelow 16 (unopposed lo)) _ u) (e - 16) (omega arith))
-    ]))
-    (λ u. so-and _ _ (all-intro 16 (unopposed lo) (λ e l. subst So (sym (low e l)) (all-elim 32 _ u e (omega arith))))
-    (all-intro 16 (unopposed hi) (λ e l. let z : e + 16 - 16 ≡ e = omega arith in
-    subst (λ k. So (unopposed hi k)) z (subst So (sym (high (e + 16) (omega arith))) (all-elim 32 _ u (e + 16) (omega arith))))))
-  where
-    low : (e : ℕ) → e < 16 → unopposed lo e ≡ unopposed (block 32 hi lo) e
-    low e l = ap₂ (λ a b. a ⇒ not b) (has-low (2 * e) 32 hi lo (omega arith)) (has-low (2 * e + 1) 32 hi lo (omega arith))
-
-    high : (e : ℕ) → 16 ≤ e → unopposed hi (e - 16) ≡ unopposed (block 32 hi lo) e
-    high e l = let y : 2 * (e - 16) ≡ 2 * e - 32 = omega arith in let z : 2 * (e - 16) + 1 ≡ 2 * e + 1 - 32 = omega arith in
-        ap₂ (λ a b. a ⇒ not b) (ap (has hi) y ∙ has-high 32 hi lo (2 * e) h (omega arith)) (ap (has hi) z ∙ has-high 32 hi lo (2 * e + 1) h (omega arith))
-
 -- entries past the table have no literal in a label of the table
-apart-in : (n N : ℕ) → n ≤ 32 → So (narrow N (2 * n)) → allBelow 32 (unopposed N) ≡ allBelow n (unopposed N)
+apart-in : (n N : ℕ) → n ≤ mostEntries → So (narrow N (2 * n)) → allBelow mostEntries (unopposed N) ≡ allBelow n (unopposed N)
 apart-in n N few t = same-test _ _
-    (λ u. all-intro n (unopposed N) (λ e l. all-elim 32 (unopposed N) u e (omega arith)))
-    (λ u. all-intro 32 (unopposed N) (λ e l. elim (decLt e n) [
+    (λ u. all-intro n (unopposed N) (λ e l. all-elim mostEntries (unopposed N) u e (omega arith)))
+    (λ u. all-intro mostEntries (unopposed N) (λ e l. elim (decLt e n) [
       | yes p ↦ all-elim n (unopposed N) u e p
       | no p ↦ imp↔ (has N (2 * e)) _ .1 (λ m. absurd (let z = narrow↔ N (2 * n) .0 t (2 * e) m in omega arith))
     ]))
 
 -- ---- what a label is to have
 -- a label with a literal put in lies within another
-within-put : (M N l : ℕ) → l < 64 → within (labelWith M l) N ≡ (has N l && within M N)
+within-put : (M N l : ℕ) → l < mostLiterals → within (labelWith M l) N ≡ (has N l && within M N)
 unfolding labelWith
-within-put M N l h = rw (lt-ltb l 64 h) (same-test (within (with M l) N) (has N l && within M N)
+within-put M N l h = rw (lt-ltb l mostLiterals h) (same-test (within (with M l) N) (has N l && within M N)
     (λ u. so-and _ _ (within↔ (with M l) N .0 u l (with↔ M l l .1 (inr refl))) (within↔ M N .1 (λ i v. within↔ (with M l) N .0 u i (with↔ M l i .1 (inl v)))))
     (λ u. within↔ (with M l) N .1 (λ i v. elim (with↔ M l i .0 v) [
       | inl w ↦ within↔ M N .0 (and-r (has N l) _ u) i w
@@ -130,14 +72,14 @@ within-put M N l h = rw (lt-ltb l 64 h) (same-test (within (with M l) N) (has N 
     ])))
 
 -- a literal of a table that has room in a label, and such a literal put in
-pub has-room : (n l : ℕ) → n ≤ 32 → entryOf (literal l) < n → l < 64
+pub has-room : (n l : ℕ) → n ≤ mostEntries → entryOf (literal l) < n → l < mostLiterals
 has-room n l few h = let y : l < 2 * n = rw (code-literal l) at (code-entry (literal l) n .1 h) in omega arith
 
-pub put-is : (n N l : ℕ) → n ≤ 32 → entryOf (literal l) < n → labelWith N l ≡ adding N (literal l)
+pub put-is : (n N l : ℕ) → n ≤ mostEntries → entryOf (literal l) < n → labelWith N l ≡ adding N (literal l)
 unfolding labelWith adding
-put-is n N l few h = rw (lt-ltb l 64 (has-room n l few h), code-literal l) refl
+put-is n N l few h = rw (lt-ltb l mostLiterals (has-room n l few h), code-literal l) refl
 
-pub root-is : (rs cs qs : List ℕ) → length cs / 6 ≤ 32 → entryOf (literal (byteAt qs 0)) < length cs / 6 → rootSet qs ≡ literalSet (wanted (describe rs cs qs))
+pub root-is : (rs cs qs : List ℕ) → length cs / 6 ≤ mostEntries → entryOf (literal (byteAt qs 0)) < length cs / 6 → rootSet qs ≡ literalSet (wanted (describe rs cs qs))
 unfolding literalSet
 root-is rs cs qs few h = put-is (length cs / 6) 0 (byteAt qs 0) few h
 
@@ -152,7 +94,7 @@ module _ (qs : List ℕ) (N : ℕ) where
   turned false true c = refl
   turned false false c = refl
 
-  within-rules : (M i : ℕ) → ((j : ℕ) → j < i → byteAt qs (j + 1) < 64) → within (withRules qs i M) N ≡ (allBelow i ruleIn && within M N)
+  within-rules : (M i : ℕ) → ((j : ℕ) → j < i → byteAt qs (j + 1) < mostLiterals) → within (withRules qs i M) N ≡ (allBelow i ruleIn && within M N)
   unfolding withRules allBelow ruleIn
   within-rules M zero h = refl
   within-rules M (suc i) h = within-put (withRules qs i M) N (byteAt qs (i + 1)) (h i (omega arith))
@@ -160,7 +102,7 @@ module _ (qs : List ℕ) (N : ℕ) where
       ∙ turned (has N (byteAt qs (i + 1))) (allBelow i ruleIn) (within M N)
 
 -- rule 11, for a table whose literals have room
-pub label-is : (rs cs qs : List ℕ) → length cs / 6 ≤ 32 → ((i : ℕ) → i < length qs - 1 → entryOf (literal (byteAt qs (i + 1))) < length cs / 6)
+pub label-is : (rs cs qs : List ℕ) → length cs / 6 ≤ mostEntries → ((i : ℕ) → i < length qs - 1 → entryOf (literal (byteAt qs (i + 1))) < length cs / 6)
     → (W : List Literal) (N : ℕ) → labelCode (length cs / 6) N (requiredSet qs (literalSet W)) ≡ labelTest (describe rs cs qs) W N
 unfolding labelTest members ruleIn
 label-is rs cs qs few rules W N = ap (λ b. narrow N (2 * n) && b) (
@@ -230,11 +172,11 @@ pub parts-read : (N e a b : ℕ) (p q r s t u : Bool) → p ≡ has N (2 * e) �
     → ((not p || (q && r)) && (not s || (t || u))) ≡ partsIn N e a b
 parts-read N e a b p q r s t u hp hq hr hs ht hu = ap (λ z. z && (not s || (t || u))) (if-then p (q && r)) ∙ ap (λ z. (p ⇒ (q && r)) && z) (if-then s (t || u)) ∙ rw (hp, hq, hr, hs, ht, hu) refl
 
-pub label-read : (cs : List ℕ) (N n M : ℕ) (p q r : Bool) → (n ≡ entryCount cs) × (n ≤ 32) → p ≡ narrow N (2 * n) → q ≡ within M N
-    → r ≡ allBelow 32 (unopposed N) → (p && (q && r)) ≡ labelCode (entryCount cs) N M
+pub label-read : (cs : List ℕ) (N n M : ℕ) (p q r : Bool) → (n ≡ entryCount cs) × (n ≤ mostEntries) → p ≡ narrow N (2 * n) → q ≡ within M N
+    → r ≡ allBelow mostEntries (unopposed N) → (p && (q && r)) ≡ labelCode (entryCount cs) N M
 label-read cs N n M p q r hn hp hq hr = rw (hp, hq, hr, ← hn .0) (go (narrow N (2 * n)) refl)
   where
-    go : (b : Bool) → narrow N (2 * n) ≡ b → (b && (within M N && allBelow 32 (unopposed N))) ≡ (b && (within M N && allBelow n (unopposed N)))
+    go : (b : Bool) → narrow N (2 * n) ≡ b → (b && (within M N && allBelow mostEntries (unopposed N))) ≡ (b && (within M N && allBelow n (unopposed N)))
     go true e = ap (λ c. within M N && c) (apart-in n N (hn .1) e)
     go false e = refl
 

@@ -4,10 +4,12 @@ ghost use mathlib.Core.Bool.{_&&_, _||_};
 ghost use Prim.Native.Nat.{_+_, _-_, _*_, _/_, _<_, _≤_};
 ghost use lib.ListN.{length};
 ghost use Rattle.logic.specs.Bounded.{allBelow};
-ghost use Rattle.labels.specs.Labels.{valueOf};
-ghost use Rattle.nodes.specs.NodeSteps.{opposed, entryCount, withRules, requiredSet, unopposed, labelCode, rootSet, partsIn, bothAt};
+ghost use Rattle.labels.specs.Labels.{mostEntries, valueOf};
+ghost use Rattle.nodes.specs.NodeSteps.{opposed, entryCount, withRules, requiredSet, labelCode, rootSet, partsIn, bothAt};
 use labels::Label;
+use labels::MOST_ENTRIES;
 use labels::below;
+use labels::consistent;
 use labels::holds;
 use labels::lies_within;
 use labels::only;
@@ -46,25 +48,11 @@ pub fn required(qs: &[u8], want: Label) -> Label
     put(with_rules(qs, want), 0)
 }
 
-// Whether the word holds no even number together with the next one: the mask has the even numbers.
-fn word_apart(x: u32) -> bool
-    ensures { λ r. ⌜ r ≡ allBelow 16 (unopposed x) ⌝ }
-{
-    (x & (x >> 1)) & 1431655765 == 0
-}
-
-// Whether the label holds no literal with its opposite.
-fn consistent(x: Label) -> bool
-    ensures { λ r. ⌜ r ≡ allBelow 32 (unopposed (valueOf x)) ⌝ }
-{
-    word_apart(x.low) & word_apart(x.high)
-}
-
-// The number of entries of the part `cs`, or 32 if there are more.
+// The number of entries of the part `cs`, or the most that a table has if there are more.
 pub fn entry_count(cs: &[u8]) -> u8
-    ensures { λ r. ⌜ (r ≡ entryCount (now (cs .entry))) × (r ≤ 32) ⌝ }
+    ensures { λ r. ⌜ (r ≡ entryCount (now (cs .entry))) × (r ≤ mostEntries) ⌝ }
 {
-    up_to(32, cs.len() / 6)
+    up_to(MOST_ENTRIES, cs.len() / 6)
 }
 
 // What a plain question wants: the root.
@@ -87,7 +75,7 @@ pub fn label_ok(cs: &[u8], x: Label, need: Label) -> bool
 
 // Whether the label holds the two parts of "both a b", entry `e`, or denies one with it.
 fn parts_in(x: Label, e: EntryNo, a: u8, b: u8) -> bool
-    requires { ⌜ e .0 < 32 ⌝ }
+    requires { ⌜ e .0 < mostEntries ⌝ }
     ensures { λ r. ⌜ r ≡ partsIn (valueOf x) (e .0) a b ⌝ }
 {
     let both = !holds(x, 2 * e.0) | (holds(x, a) & holds(x, b));
@@ -97,7 +85,7 @@ fn parts_in(x: Label, e: EntryNo, a: u8, b: u8) -> bool
 
 // Rule 12 of one entry.
 fn both_at(cs: &[u8], x: Label, e: EntryNo) -> bool
-    requires { ⌜ e .0 < 32 ⌝ }
+    requires { ⌜ e .0 < mostEntries ⌝ }
     ensures { λ r. ⌜ r ≡ bothAt (now (cs .entry)) (valueOf x) (e .0) ⌝ }
 {
     let c = concept_at(cs, e);

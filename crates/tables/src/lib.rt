@@ -69,7 +69,7 @@ fn cut_fields(cs: &[u8], e: EntryNo) -> Fields
 pub fn fields_at(cs: &[u8], e: EntryNo) -> Fields
     ensures { λ r. ⌜ (r ≡ fieldsStruct (now (cs .entry)) (e .0)) × (r .number < 65536) ⌝ }
 {
-    let at = 6 * (e.0 as usize);
+    let at = (6 * (e.0 as u32)) as usize;
     if cs.len() < at + 6 {
         return cut_fields(cs, e);
     }

@@ -1,7 +1,7 @@
-use Prim.Native.Nat.{_<_, _^_, _*_, _+_}
+use Prim.Native.Nat.{_*_, _+_}
 use mathlib.Core.Path.{_≡_, _∙_}
 use native.Mathlib.Omega.{arith}
-use Rattle.labels.specs.Labels.{valueOf}
+use Rattle.labels.specs.Labels.{valueOf, label-few}
 use Rattle.description.specs.Literals.{code}
 use Rattle.cites.specs.Cites.{none-put, case-put, ofEntry}
 use borrow.Author.Needs.{needs}
@@ -20,7 +20,7 @@ lies-within-requires : tie.Need-lies-within-requires
 lies-within-requires c κs = search needs
 
 returns : tie.Need-returns
-returns c = let g = c .before .before .before .before .before .args in let y = c .before .record-label .result in let few : valueOf y < 2 ^ 64 = omega arith in
+returns c = let g = c .before .before .before .before .before .args in let y = c .before .record-label .result in let few = label-few y (search needs) (search needs) in
     c .lies-within .ensures ∙ none-put (valueOf y) few _ (valueOf (g .x)) (g .e .0) (g .denied) (c .before .record-label .ensures) (c .before .before .if1 .taken)
 
 mul-within-one : tie.Need-mul-within-one

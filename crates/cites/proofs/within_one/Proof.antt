@@ -1,7 +1,5 @@
-use Prim.Native.Nat.{_<_, _^_}
 use mathlib.Core.Path.{_∙_}
-use native.Mathlib.Omega.{arith}
-use Rattle.labels.specs.Labels.{valueOf}
+use Rattle.labels.specs.Labels.{valueOf, label-few}
 use Rattle.cites.specs.Cites.{one-put}
 use borrow.Author.Needs.{needs}
 use Rattle.cites.proofs.within_one.Statement.{statement}
@@ -22,7 +20,7 @@ lies-within-requires : tie.Need-lies-within-requires
 lies-within-requires c κs = search needs
 
 returns : tie.Need-returns
-returns c = let y = c .before .before .record-label .result in let few : valueOf y < 2 ^ 64 = omega arith in
+returns c = let y = c .before .before .record-label .result in let few = label-few y (search needs) (search needs) in
     c .lies-within .ensures ∙ one-put (valueOf y) few _ _ _ _ (c .before .before .record-label .ensures) (c .before .put .ensures)
 
 pub within-one-spec : {M : Type 1} → statement M

@@ -1,7 +1,5 @@
-use Prim.Native.Nat.{_<_, _^_}
 use mathlib.Core.Path.{_∙_}
-use native.Mathlib.Omega.{arith}
-use Rattle.labels.specs.Labels.{valueOf}
+use Rattle.labels.specs.Labels.{valueOf, label-few}
 use Rattle.cites.specs.Cites.{two-put}
 use borrow.Author.Needs.{needs}
 use Rattle.cites.proofs.within_two.Statement.{statement}
@@ -25,7 +23,7 @@ lies-within-requires : tie.Need-lies-within-requires
 lies-within-requires c κs = search needs
 
 returns : tie.Need-returns
-returns c = let y = c .before .before .before .record-label .result in let few : valueOf y < 2 ^ 64 = omega arith in
+returns c = let y = c .before .before .before .record-label .result in let few = label-few y (search needs) (search needs) in
     c .lies-within .ensures ∙ two-put (valueOf y) few _ _ _ _ _ _ (c .before .before .before .record-label .ensures) (c .before .before .put .ensures) (c .before .put2 .ensures)
 
 pub within-two-spec : {M : Type 1} → statement M

@@ -9,23 +9,20 @@ use Rattle.closing.proofs.close_roles.Lts as lts
 use Rattle.closing.proofs.close.Reads as close-reads
 use Rattle.closing.proofs.raise.Reads as raise-reads
 
-mul-if1 : tie.Need-mul-if1
-mul-if1 c = search needs
-
-add-if1 : tie.Need-add-if1
-add-if1 c = search needs
-
-mul-if1-2 : tie.Need-mul-if1-2
-mul-if1-2 c = omega (arith, small (c .before .args .d) (c .before .args .d) (omega arith) (omega arith))
-
-mul-if1-3 : tie.Need-mul-if1-3
-mul-if1-3 c = omega (arith, small (c .before .args .d) (c .before .args .d) (omega arith) (omega arith))
-
-add-if1-2 : tie.Need-add-if1-2
-add-if1-2 c = omega (arith, small (c .before .args .d) (c .before .args .d) (omega arith) (omega arith))
-
 returns : tie.Need-returns
-returns c = (refl, closed-short (c .before .before .args .buf .now) (c .before .before .args .d) (c .before .before .args .t) (c .before .before .args .a) (c .if1 .taken))
+returns c = (refl, closed-short (c .before .before .args .buf .now) (c .before .before .args .at) (c .before .before .args .d) (c .before .before .args .t) (c .before .before .args .a) (omega arith))
+
+sub-if2 : tie.Need-sub-if2
+sub-if2 c = search needs
+
+mul-if2 : tie.Need-mul-if2
+mul-if2 c = omega (arith, small (c .before .before .args .d) (c .before .before .args .d) (omega arith) (omega arith))
+
+mul-if2-2 : tie.Need-mul-if2-2
+mul-if2-2 c = omega (arith, small (c .before .before .args .d) (c .before .before .args .d) (omega arith) (omega arith))
+
+returns-2 : tie.Need-returns-2
+returns-2 c = (refl, closed-short (c .before .before .before .args .buf .now) (c .before .before .before .args .at) (c .before .before .before .args .d) (c .before .before .before .args .t) (c .before .before .before .args .a) (omega arith))
 
 close-requires : tie.Need-close-requires
 close-requires c κs = search needs
@@ -36,24 +33,23 @@ raise-requires c κs = search needs
 same-length : tie.Need-same-length
 same-length c = search needs
 
-returns-2 : tie.Need-returns-2
-returns-2 c = let b = c .before .before .before .before .before .before .close .ensures in let r = c .before .before .raise .ensures in (
+returns-3 : tie.Need-returns-3
+returns-3 c = let a = c .before .before .before .before .before .before .before .before .before .before .before .args in let b = c .before .before .before .before .before .before .close .ensures in let r = c .before .before .raise .ensures in (
   r .whole ∙ b .whole,
-  closed-bytes (c .before .before .before .before .before .before .before .before .before .before .args .buf .now) (c .before .before .before .before .before .before .before .before .before .before .args .d) (c .before .before .before .before .before .before .before .before .before .before .args .t) (c .before .before .before .before .before .before .before .before .before .before .args .a) (c .before .before .before .before .before .before .close .last .0) (c .before .before .raise .last .0)
-      (λ p. omega (arith, c .slice-known3 .given p)) b r (c .before .before .before .before .before .before .before .before .if1 .left),
+  closed-bytes (a .buf .now) (a .at) (a .d) (a .t) (a .a) (c .before .before .before .before .before .before .close .last .0) (c .before .before .raise .last .0)
+      (λ p. omega (arith, c .slice-known3 .given p)) b r (omega arith),
 )
 
 pub close-roles-spec : {M : Type 1} → statement M
 close-roles-spec =
     tie.close
     (tie.spec
-    mul-if1
-    add-if1
-    mul-if1-2
-    mul-if1-3
-    add-if1-2
     returns
+    sub-if2
+    mul-if2
+    mul-if2-2
+    returns-2
     close-requires
     raise-requires
     same-length
-    returns-2)
+    returns-3)

@@ -1,20 +1,20 @@
-use Rattle.parts.specs.Numbers.{num2}
-use Prim.Native.Nat.{_-_, _≤_}
-use mathlib.Core.Path.{_≡_}
-use native.Mathlib.Omega.{arith}
-use lib.ListN.{length-set}
+use Rattle.closing.specs.Rows.{joinMask, join-more}
 use Rattle.lines.specs.Laying.{Masks, laid-none, two-local}
-use Rattle.closing.specs.Steps.{joinMask, join-more}
+use lib.ListN.{length-set}
+use native.Mathlib.Omega.{arith}
+use mathlib.Core.Path.{_≡_}
+use Prim.Native.Nat.{_-_, _≤_}
+use Rattle.parts.specs.Numbers.{num2}
 use Rattle.closing.proofs.join_row.Statement.{statement}
 use Rattle.closing.proofs.join_row.Tie as tie
 use Rattle.closing.proofs.join_row.Reads as reads
 use Rattle.closing.proofs.join_row.Lts as lts
 
 abbrev Inv-loop : tie.InvT-loop
-Inv-loop buf₀ at from n m high low y₀ buf y = (y ≤ n) × Masks at (joinMask buf₀ at from m) buf₀ y buf
+Inv-loop buf₀ at from n m high low size y₀ buf y = (y ≤ n) × Masks at (joinMask buf₀ at from m) buf₀ y buf
 
 abbrev μ-loop : tie.MeasureT-loop
-μ-loop buf₀ at from n m high low y₀ buf y = n - y
+μ-loop buf₀ at from n m high low size y₀ buf y = n - y
 
 cast-high : tie.Need-cast-high Inv-loop μ-loop
 cast-high c = omega arith
@@ -28,11 +28,17 @@ loop-holds c = (omega arith, laid-none 2 num2 two-local _ _ _)
 mul-i : tie.Need-mul-i Inv-loop μ-loop
 mul-i c = omega arith
 
+cast-i : tie.Need-cast-i Inv-loop μ-loop
+cast-i c = omega arith
+
 add-i : tie.Need-add-i Inv-loop μ-loop
 add-i c = omega arith
 
 mul-j : tie.Need-mul-j Inv-loop μ-loop
 mul-j c = omega arith
+
+cast-j : tie.Need-cast-j Inv-loop μ-loop
+cast-j c = omega arith
 
 add-j : tie.Need-add-j Inv-loop μ-loop
 add-j c = omega arith
@@ -71,16 +77,16 @@ loop-less : tie.Need-loop-less Inv-loop μ-loop
 loop-less c = omega arith
 
 loop-again : tie.Need-loop-again Inv-loop μ-loop
-loop-again c = let v = c .before .before .before .before .before .loop .inv in (
+loop-again c = let p = c .before .before .before .before .before .before in let v = c .before .before .before .before .before .loop in (
   omega arith,
-  join-more _ _ _ _ _ _ (c .before .before .before .before .before .loop .buf) (omega arith) (c .before .before .before .before .before .before .pre .0) (c .before .before .before .before .before .before .pre .2) (omega arith) (λ p. omega (arith, c .slice-known4 .given p)) (v .1),
+  join-more _ _ _ _ (p .args .n) _ (v .buf) (omega arith) (p .pre) (omega arith) (λ q. omega (arith, c .slice-known4 .given q)) (v .inv .1),
 )
 
 same-length : tie.Need-same-length Inv-loop μ-loop
 same-length c = c .before .loop .inv .1 .whole
 
 returns : tie.Need-returns Inv-loop μ-loop
-returns c = let z : c .before .loop .y ≡ c .before .before .args .n = omega arith in rw z at (c .before .loop .inv .1)
+returns c = let v = c .before .loop in let z : v .y ≡ c .before .before .args .n = omega arith in rw z at (v .inv .1)
 
 pub join-row-spec : {M : Type 1} → statement M
 join-row-spec =
@@ -92,8 +98,10 @@ join-row-spec =
     cast-low
     loop-holds
     mul-i
+    cast-i
     add-i
     mul-j
+    cast-j
     add-j
     slice-read-first
     slice-read-first-2

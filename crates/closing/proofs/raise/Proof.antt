@@ -1,11 +1,11 @@
-use Rattle.parts.specs.Numbers.{num2}
-use Prim.Native.Nat.{_*_, _-_, _≤_}
-use mathlib.Core.Path.{_≡_}
-use native.Mathlib.Omega.{arith}
-use lib.ListN.{length-set}
-use Rattle.lines.specs.Lines.{nameAt}
+use Rattle.closing.specs.Steps.{small, raisedMask, raise-more}
 use Rattle.lines.specs.Laying.{Masks, laid-none, two-local}
-use Rattle.closing.specs.Steps.{raisedMask, raise-more}
+use borrow.Author.Needs.{needs}
+use lib.ListN.{length-set}
+use native.Mathlib.Omega.{arith}
+use mathlib.Core.Path.{_≡_, refl}
+use Prim.Native.Nat.{_+_, _*_, _-_, _≤_}
+use Rattle.parts.specs.Numbers.{num2}
 use Rattle.closing.proofs.raise.Statement.{statement}
 use Rattle.closing.proofs.raise.Tie as tie
 use Rattle.closing.proofs.raise.Reads as reads
@@ -14,34 +14,22 @@ use Rattle.closing.proofs.raised.Reads as raised-reads
 use Rattle.parts.proofs.mask2.Reads as mask2-reads
 
 abbrev Inv-loop : tie.InvT-loop
-Inv-loop buf₀ n t a size i₀ buf i = (i ≤ n * n) × Masks (nameAt n) (raisedMask buf₀ n t a) buf₀ i buf
+Inv-loop buf₀ at n t a size p₀ i₀ buf p i = (size ≡ n * n) × (i ≤ n * n) × (p ≡ at + 2 * i) × Masks at (raisedMask buf₀ at t a) buf₀ i buf
 
 abbrev μ-loop : tie.MeasureT-loop
-μ-loop buf₀ n t a size i₀ buf i = n * n - i
+μ-loop buf₀ at n t a size p₀ i₀ buf p i = n * n - i
 
 mul-size : tie.Need-mul-size Inv-loop μ-loop
-mul-size c = omega arith
+mul-size c = let a = c .before .args in omega (arith, small (a .n) (a .n) (omega arith) (omega arith))
 
 loop-holds : tie.Need-loop-holds Inv-loop μ-loop
-loop-holds c = (omega arith, laid-none 2 num2 two-local _ _ _)
-
-mul-at : tie.Need-mul-at Inv-loop μ-loop
-mul-at c = omega arith
-
-add-at : tie.Need-add-at Inv-loop μ-loop
-add-at c = omega arith
-
-mul-at-2 : tie.Need-mul-at-2 Inv-loop μ-loop
-mul-at-2 c = omega arith
-
-add-at-2 : tie.Need-add-at-2 Inv-loop μ-loop
-add-at-2 c = omega arith
+loop-holds c = (refl, omega arith, omega arith, laid-none 2 num2 two-local _ _ _)
 
 mask2-requires : tie.Need-mask2-requires Inv-loop μ-loop
-mask2-requires c κs = tt
+mask2-requires c κs = search needs
 
 raised-requires : tie.Need-raised-requires Inv-loop μ-loop
-raised-requires c κs = tt
+raised-requires c κs = search needs
 
 cast-buf : tie.Need-cast-buf Inv-loop μ-loop
 cast-buf c = omega arith
@@ -58,23 +46,30 @@ add-buf c = omega arith
 slice-write-buf-2 : tie.Need-slice-write-buf-2 Inv-loop μ-loop
 slice-write-buf-2 c = simp length-set (omega arith)
 
+add-p : tie.Need-add-p Inv-loop μ-loop
+add-p c = omega arith
+
 add-i : tie.Need-add-i Inv-loop μ-loop
-add-i c = omega arith
+add-i c = let a = c .before .before .before .before .before .before .args in omega (arith, small (a .n) (a .n) (omega arith) (omega arith))
 
 loop-less : tie.Need-loop-less Inv-loop μ-loop
 loop-less c = omega arith
 
 loop-again : tie.Need-loop-again Inv-loop μ-loop
-loop-again c = (
+loop-again c = let p = c .before .before .before .before .before .before in let v = c .before .before .before .before .loop in (
+  v .inv .0,
   omega arith,
-  raise-more _ _ _ _ _ _ (c .before .before .before .before .before .before .args .buf .now) (c .before .before .before .before .loop .buf) (omega arith) (c .before .before .before .before .before .before .pre .1) (c .before .mask2 .ensures) (c .raised .ensures) (omega arith) (c .before .before .before .before .loop .inv .1),
+  omega arith,
+  raise-more _ _ _ (v .i) _ _ _ _ (p .args .buf .now) (v .buf) (omega arith) (p .pre) (v .inv .2) (c .before .mask2 .ensures)
+      (c .raised .ensures) (omega arith) (v .inv .3),
 )
 
 same-length : tie.Need-same-length Inv-loop μ-loop
-same-length c = c .before .loop .inv .1 .whole
+same-length c = c .before .loop .inv .3 .whole
 
 returns : tie.Need-returns Inv-loop μ-loop
-returns c = let z : c .before .loop .i ≡ c .before .before .before .args .n * c .before .before .before .args .n = omega arith in rw z at (c .before .loop .inv .1)
+returns c = let a = c .before .before .before .args in let v = c .before .loop in let z : v .i ≡ a .n * a .n = omega arith in
+    rw z at (v .inv .3)
 
 pub raise-spec : {M : Type 1} → statement M
 raise-spec =
@@ -84,10 +79,6 @@ raise-spec =
     μ-loop
     mul-size
     loop-holds
-    mul-at
-    add-at
-    mul-at-2
-    add-at-2
     mask2-requires
     raised-requires
     cast-buf
@@ -95,6 +86,7 @@ raise-spec =
     cast-buf-2
     add-buf
     slice-write-buf-2
+    add-p
     add-i
     loop-less
     loop-again

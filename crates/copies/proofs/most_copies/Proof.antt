@@ -12,10 +12,10 @@ use Rattle.copies.proofs.most_to.Reads as most-to-reads
 use Rattle.evidence.proofs.record_edges.Reads as record-edges-reads
 
 abbrev Inv-loop : tie.InvT-loop
-Inv-loop s n most₀ x₀ most x = (x ≤ n) × (most ≤ 32 * 65535) × (most ≡ max 1 (maxBelow x (mostFrom s n)))
+Inv-loop s n f most₀ x₀ most x = (x ≤ n) × (most ≤ 32 * 65535) × (most ≡ max 1 (maxBelow x (mostFrom f s n)))
 
 abbrev μ-loop : tie.MeasureT-loop
-μ-loop s n most₀ x₀ most x = n - x
+μ-loop s n f most₀ x₀ most x = n - x
 
 loop-holds : tie.Need-loop-holds Inv-loop μ-loop
 unfolding maxBelow
@@ -40,13 +40,13 @@ loop-again : tie.Need-loop-again Inv-loop μ-loop
 loop-again c = let v = c .before .before .before .before .loop .inv in (
   omega arith,
   omega arith,
-  copies-more (c .before .before .before .before .before .before .args .s .now) (c .before .before .before .before .before .before .args .n) (c .before .before .before .before .loop .x) _ _ _ _ (v .2)
+  copies-more (c .before .before .before .before .before .before .args .f) (c .before .before .before .before .before .before .args .s .now) (c .before .before .before .before .before .before .args .n) (c .before .before .before .before .loop .x) _ _ _ _ (v .2)
       (c .before .before .record-edges .ensures) (c .before .most-to .ensures .0) (c .greater .ensures),
 )
 
 returns : tie.Need-returns Inv-loop μ-loop
 returns c = let v = c .before .loop .inv in (
-  copies-end (c .before .before .before .args .s .now) (c .before .before .before .args .n) (c .before .loop .x) _ (v .0) (omega arith) (v .2),
+  copies-end (c .before .before .before .args .f) (c .before .before .before .args .s .now) (c .before .before .before .args .n) (c .before .loop .x) _ (v .0) (omega arith) (v .2),
   v .1,
 )
 

@@ -5,7 +5,11 @@ use Rattle.evidence.proofs.record_edges.Statement.{statement}
 use Rattle.evidence.proofs.record_edges.Tie as tie
 use Rattle.evidence.proofs.record_edges.Reads as reads
 use Rattle.evidence.proofs.record_edges.Lts as lts
+use Rattle.labels.proofs.label_bytes.Reads as label-bytes-reads
 use Rattle.parts.proofs.read2.Reads as read2-reads
+
+label-bytes-requires : tie.Need-label-bytes-requires
+label-bytes-requires c κs = search needs
 
 mul-at : tie.Need-mul-at
 mul-at c = search needs
@@ -32,13 +36,13 @@ slice-aggregate-result : tie.Need-slice-aggregate-result
 slice-aggregate-result c = search needs
 
 returns : tie.Need-returns
-returns c = edges-none _ _ _ _ (c .before .before .before .read2 .ensures .0) (c .before .before .read22 .ensures .0) (omega arith)
+returns c = edges-none (c .before .before .before .before .before .before .args .f) _ _ _ _ _ (c .before .before .before .read2 .ensures .0) (c .before .before .read22 .ensures .0) (c .before .before .before .before .label-bytes .ensures .0) (omega arith)
 
 slice-aggregate-result-2 : tie.Need-slice-aggregate-result-2
 slice-aggregate-result-2 c = search needs
 
 returns-2 : tie.Need-returns-2
-returns-2 c = edges-past _ _ _ _ (c .before .before .before .before .read2 .ensures .0) (c .before .before .before .read22 .ensures .0) (omega arith) (omega arith)
+returns-2 c = edges-past (c .before .before .before .before .before .before .before .args .f) _ _ _ _ _ (c .before .before .before .before .read2 .ensures .0) (c .before .before .before .read22 .ensures .0) (c .before .before .before .before .before .label-bytes .ensures .0) (omega arith) (omega arith)
 
 add-result : tie.Need-add-result
 add-result c = search needs
@@ -53,12 +57,13 @@ part-result-end : tie.Need-part-result-end
 part-result-end c = search needs
 
 returns-3 : tie.Need-returns-3
-returns-3 c = edges-inside _ _ _ _ (c .before .before .before .before .read2 .ensures .0) (c .before .before .before .read22 .ensures .0) (omega arith) (omega arith)
+returns-3 c = edges-inside (c .before .before .before .before .before .before .before .args .f) _ _ _ _ _ (c .before .before .before .before .read2 .ensures .0) (c .before .before .before .read22 .ensures .0) (c .before .before .before .before .before .label-bytes .ensures .0) (omega arith) (omega arith)
 
 pub record-edges-spec : {M : Type 1} → statement M
 record-edges-spec =
     tie.close
     (tie.spec
+    label-bytes-requires
     mul-at
     add-at
     read2-requires

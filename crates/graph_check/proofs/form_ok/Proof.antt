@@ -24,7 +24,7 @@ node-form-ok-requires : tie.Need-node-form-ok-requires
 node-form-ok-requires c κs = search needs
 
 returns : tie.Need-returns
-returns c = c .node-form-ok .ensures ∙ ap nodeFormTest (c .before .read2 .ensures .0)
+returns c = c .node-form-ok .ensures ∙ ap (nodeFormTest (c .before .before .before .args .f)) (c .before .read2 .ensures .0)
 
 pub form-ok-spec : {M : Type 1} → statement M
 form-ok-spec =

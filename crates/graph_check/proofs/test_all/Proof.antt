@@ -1,4 +1,4 @@
-use mathlib.Core.Path.{_∙_, sym, ap}
+use mathlib.Core.Path.{sym, _∙_, ap}
 use Rattle.labels.specs.Labels.{valueOf}
 use Rattle.answers.specs.Answers.{refusalOf}
 use Rattle.graph_check.specs.GraphSteps.{forms-stop, forms-on}
@@ -7,8 +7,12 @@ use Rattle.graph_check.proofs.test_all.Statement.{statement}
 use Rattle.graph_check.proofs.test_all.Tie as tie
 use Rattle.graph_check.proofs.test_all.Reads as reads
 use Rattle.graph_check.proofs.test_all.Lts as lts
+use Rattle.evidence.proofs.layout_of.Reads as layout-of-reads
 use Rattle.graph_check.proofs.test_forms.Reads as test-forms-reads
 use Rattle.graph_check.proofs.test_records.Reads as test-records-reads
+
+layout-of-requires : tie.Need-layout-of-requires
+layout-of-requires c κs = search needs
 
 test-forms-requires : tie.Need-test-forms-requires
 test-forms-requires c κs = search needs
@@ -20,19 +24,26 @@ enum-told-2 : tie.Need-enum-told-2
 enum-told-2 c = search needs
 
 returns : tie.Need-returns
-returns c = let g = c .before .before .before .before .before .before .before .args in
-    ap refusalOf (c .enum-told2 .given .1) ∙ forms-stop (g .rs .now) (g .cs .now) (g .qs .now) (g .a) (valueOf (g .want)) (g .s .now) (g .n) _
+returns c = let g = c .before .before .before .before .before .before .before .before .args in
+    ap refusalOf (c .enum-told2 .given .1) ∙ forms-stop (g .rs .now) (g .cs .now) (g .qs .now) (g .a) (valueOf (g .want)) (g .s .now) (g .n) _ (c .before .before .before .layout-of .ensures) _
     (sym (c .before .before .test-forms .ensures) ∙ ap refusalOf (c .enum-told2 .given .1))
 
 test-records-requires : tie.Need-test-records-requires
 test-records-requires c κs = search needs
 
 returns-2 : tie.Need-returns-2
-returns-2 c = let g = c .before .before .before .before .before .before .before .before .args in
-    c .test-records .ensures ∙ forms-on (g .rs .now) (g .cs .now) (g .qs .now) (g .a) (valueOf (g .want)) (g .s .now) (g .n)
+returns-2 c = let g = c .before .before .before .before .before .before .before .before .before .args in
+    c .test-records .ensures ∙ forms-on (g .rs .now) (g .cs .now) (g .qs .now) (g .a) (valueOf (g .want)) (g .s .now) (g .n) _ (c .before .before .before .before .layout-of .ensures)
     (sym (c .before .before .before .test-forms .ensures) ∙ ap refusalOf (c .before .enum-told .given .1))
 
 pub test-all-spec : {M : Type 1} → statement M
 test-all-spec =
     tie.close
-    (tie.spec test-forms-requires enum-told enum-told-2 returns test-records-requires returns-2)
+    (tie.spec
+    layout-of-requires
+    test-forms-requires
+    enum-told
+    enum-told-2
+    returns
+    test-records-requires
+    returns-2)

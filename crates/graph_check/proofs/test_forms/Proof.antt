@@ -14,10 +14,10 @@ use Rattle.graph_check.proofs.test_forms.Lts as lts
 use Rattle.graph_check.proofs.form_ok.Reads as form-ok-reads
 
 abbrev Inv-loop : tie.InvT-loop
-Inv-loop s n i₀ i = (i ≤ n) × (refuseFrom (formOf s) (n - i) i none ≡ refuseFrom (formOf s) n 0 none)
+Inv-loop s n f i₀ i = (i ≤ n) × (refuseFrom (formOf f s) (n - i) i none ≡ refuseFrom (formOf f s) n 0 none)
 
 abbrev μ-loop : tie.MeasureT-loop
-μ-loop s n i₀ i = n - i
+μ-loop s n f i₀ i = n - i
 
 loop-holds : tie.Need-loop-holds Inv-loop μ-loop
 loop-holds c = (omega arith, records-start _ _ _)

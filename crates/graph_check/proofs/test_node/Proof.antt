@@ -1,3 +1,4 @@
+use Rattle.evidence.specs.Evidence.{labelOf}
 use mathlib.Core.Path.{_∙_, sym}
 use borrow.Author.Tests.{not-true, not-false}
 use Rattle.labels.specs.Labels.{valueOf}
@@ -17,7 +18,7 @@ label-ok-requires c κs = search needs
 
 returns : tie.Need-returns
 returns c = let g = c .before .before .before .before .before .before .args in
-    stops-11 (g .rs .now) (g .cs .now) (g .a) (valueOf (g .need)) (g .s .now) (g .n) (g .i) (valueOf (g .x)) (g .es .now)
+    stops-11 (g .rs .now) (g .cs .now) (g .a) (valueOf (g .need)) (labelOf (g .f) (g .s .now)) (g .n) (g .i) (valueOf (g .x)) (g .es .now)
     (sym (c .before .label-ok .ensures) ∙ not-true _ (c .if1 .taken))
 
 boths-ok-requires : tie.Need-boths-ok-requires
@@ -25,7 +26,7 @@ boths-ok-requires c κs = search needs
 
 returns-2 : tie.Need-returns-2
 returns-2 c = let g = c .before .before .before .before .before .before .before .before .args in
-    stops-12 (g .rs .now) (g .cs .now) (g .a) (valueOf (g .need)) (g .s .now) (g .n) (g .i) (valueOf (g .x)) (g .es .now)
+    stops-12 (g .rs .now) (g .cs .now) (g .a) (valueOf (g .need)) (labelOf (g .f) (g .s .now)) (g .n) (g .i) (valueOf (g .x)) (g .es .now)
     (sym (c .before .before .before .label-ok .ensures) ∙ not-false _ (c .before .before .if1 .left))
     (sym (c .before .boths-ok .ensures) ∙ not-true _ (c .if2 .taken))
 
@@ -34,7 +35,7 @@ edges-ok-requires c κs = search needs
 
 returns-3 : tie.Need-returns-3
 returns-3 c = let g = c .before .before .before .before .before .before .before .before .before .before .args in
-    stops-13 (g .rs .now) (g .cs .now) (g .a) (valueOf (g .need)) (g .s .now) (g .n) (g .i) (valueOf (g .x)) (g .es .now)
+    stops-13 (g .rs .now) (g .cs .now) (g .a) (valueOf (g .need)) (labelOf (g .f) (g .s .now)) (g .n) (g .i) (valueOf (g .x)) (g .es .now)
     (sym (c .before .before .before .before .before .label-ok .ensures) ∙ not-false _ (c .before .before .before .before .if1 .left))
     (sym (c .before .before .before .boths-ok .ensures) ∙ not-false _ (c .before .before .if2 .left))
     (sym (c .before .edges-ok .ensures) ∙ not-true _ (c .if3 .taken))
@@ -44,7 +45,7 @@ test-fillers-requires c κs = search needs
 
 returns-4 : tie.Need-returns-4
 returns-4 c = let b = c .before .before .before .before .before .before .before .before .before .before .before in let g = b .args in c .test-fillers .ensures
-    ∙ goes-on (g .rs .now) (g .cs .now) (g .a) (valueOf (g .need)) (g .s .now) (g .n) (g .i) (valueOf (g .x)) (g .es .now) (g .src) (b .pre)
+    ∙ goes-on (g .rs .now) (g .cs .now) (g .a) (valueOf (g .need)) (labelOf (g .f) (g .s .now)) (g .n) (g .i) (valueOf (g .x)) (g .es .now) (g .src .now) (b .pre)
     (sym (c .before .before .before .before .before .before .label-ok .ensures) ∙ not-false _ (c .before .before .before .before .before .if1 .left))
     (sym (c .before .before .before .before .boths-ok .ensures) ∙ not-false _ (c .before .before .before .if2 .left))
     (sym (c .before .before .edges-ok .ensures) ∙ not-false _ (c .before .if3 .left))

@@ -21,7 +21,7 @@ test-node-requires c κs = search needs
 
 returns : tie.Need-returns
 returns c = let g = c .before .before .before .before .before .before .args in c .test-node .ensures
-    ∙ record-read (g .rs .now) (g .cs .now) (g .a) (valueOf (g .need)) (g .s .now) (g .n) (g .i) _ _
+    ∙ record-read (g .rs .now) (g .cs .now) (g .a) (valueOf (g .need)) (g .f) (g .s .now) (g .n) (g .i) _ _
     (c .before .before .record-label .ensures) (c .before .record-edges .ensures)
 
 pub test-record-spec : {M : Type 1} → statement M

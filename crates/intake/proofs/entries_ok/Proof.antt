@@ -1,3 +1,4 @@
+use Rattle.labels.specs.Labels.{mostEntries}
 use Prim.Native.Nat.{_-_, _≤_}
 use mathlib.Core.Path.{_≡_, _∙_, sym}
 use mathlib.Core.Bool.{true}
@@ -13,7 +14,7 @@ use Rattle.intake.proofs.entries_ok.Lts as lts
 use Rattle.tables.proofs.entry_ok.Reads as entry-ok-reads
 
 abbrev Inv-loop : tie.InvT-loop
-Inv-loop cs roles n e₀ e = (e ≤ n) × (n ≤ 32) × (allBelow e (λ e. fieldsTest roles e (fieldsAt cs e)) ≡ true)
+Inv-loop cs roles n e₀ e = (e ≤ n) × (n ≤ mostEntries) × (allBelow e (λ e. fieldsTest roles e (fieldsAt cs e)) ≡ true)
 
 abbrev μ-loop : tie.MeasureT-loop
 μ-loop cs roles n e₀ e = n - e

@@ -1,3 +1,4 @@
+use Rattle.labels.specs.Labels.{mostEntries}
 use Prim.Native.Nat.{_-_, _≤_}
 use mathlib.Core.Path.{_≡_, _∙_, sym}
 use mathlib.Core.Bool.{false}
@@ -14,7 +15,7 @@ use Rattle.intake.proofs.every_there.Lts as lts
 use Rattle.intake.proofs.is_every.Reads as is-every-reads
 
 abbrev Inv-loop : tie.InvT-loop
-Inv-loop cs t l n f₀ f = (f ≤ n) × (n ≤ 32) × (anyBelow f (λ f. sameEntry (every (t .0) (literal l)) (entryOfFields (fieldsAt cs f))) ≡ false)
+Inv-loop cs t l n f₀ f = (f ≤ n) × (n ≤ mostEntries) × (anyBelow f (λ f. sameEntry (every (t .0) (literal l)) (entryOfFields (fieldsAt cs f))) ≡ false)
 
 abbrev μ-loop : tie.MeasureT-loop
 μ-loop cs t l n f₀ f = n - f

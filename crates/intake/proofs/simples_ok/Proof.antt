@@ -1,3 +1,4 @@
+use Rattle.labels.specs.Labels.{mostEntries}
 use Prim.Native.Nat.{_-_, _≤_}
 use mathlib.Core.Path.{_≡_, _∙_, sym}
 use mathlib.Core.Bool.{true}
@@ -13,7 +14,7 @@ use Rattle.intake.proofs.simples_ok.Lts as lts
 use Rattle.intake.proofs.simple_ok.Reads as simple-ok-reads
 
 abbrev Inv-loop : tie.InvT-loop
-Inv-loop cs complex n e₀ e = (e ≤ n) × (n ≤ 32) × (allBelow e (simpleAt cs complex) ≡ true)
+Inv-loop cs complex n e₀ e = (e ≤ n) × (n ≤ mostEntries) × (allBelow e (simpleAt cs complex) ≡ true)
 
 abbrev μ-loop : tie.MeasureT-loop
 μ-loop cs complex n e₀ e = n - e

@@ -9,6 +9,12 @@ use Rattle.intake.proofs.records_ok.Reads as records-ok-reads
 records-ok-requires : tie.Need-records-ok-requires
 records-ok-requires c κs = search needs
 
+cast-records-ok : tie.Need-cast-records-ok
+cast-records-ok c = search needs
+
+mul-records-ok : tie.Need-mul-records-ok
+mul-records-ok c = search needs
+
 records-ok-requires-2 : tie.Need-records-ok-requires-2
 records-ok-requires-2 c κs = search needs
 
@@ -16,4 +22,4 @@ returns : tie.Need-returns
 returns c = sizes-read (c .before .before .before .before .before .args .rs .now) (c .before .before .before .before .before .args .cs .now) (c .before .before .before .before .before .args .qs .now) _ _ (c .before .records-ok .ensures) (c .records-ok2 .ensures)
 
 pub sizes-ok-spec : {M : Type 1} → statement M
-sizes-ok-spec = tie.close (tie.spec records-ok-requires records-ok-requires-2 returns)
+sizes-ok-spec = tie.close (tie.spec records-ok-requires cast-records-ok mul-records-ok records-ok-requires-2 returns)

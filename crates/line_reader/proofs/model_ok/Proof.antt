@@ -1,5 +1,6 @@
 use mathlib.Core.Path.{_∙_}
 use borrow.Author.Needs.{needs}
+use Rattle.line_reader.specs.LineSteps.{sized}
 use Rattle.line_reader.specs.Order.{model-read}
 use Rattle.line_reader.specs.TruthSteps.{follows-is, satisfies-is}
 use Rattle.line_reader.proofs.model_ok.Statement.{statement}
@@ -7,10 +8,14 @@ use Rattle.line_reader.proofs.model_ok.Tie as tie
 use Rattle.line_reader.proofs.model_ok.Reads as reads
 use Rattle.line_reader.proofs.model_ok.Lts as lts
 use Rattle.line_reader.proofs.pairs.inclusions_ok.Reads as inclusions-ok-reads
+use Rattle.line_reader.proofs.pairs.transitivity_ok.Reads as transitivity-ok-reads
+use Rattle.line_reader.proofs.places.name_at.Reads as name-at-reads
 use Rattle.line_reader.proofs.truth.root_ok.Reads as root-ok-reads
 use Rattle.line_reader.proofs.truth.rules_ok.Reads as rules-ok-reads
-use Rattle.line_reader.proofs.pairs.transitivity_ok.Reads as transitivity-ok-reads
 use Rattle.line_reader.proofs.truth.truth_sets.Reads as truth-sets-reads
+
+name-at-requires : tie.Need-name-at-requires
+name-at-requires c κs = search needs
 
 inclusions-ok-requires : tie.Need-inclusions-ok-requires
 inclusions-ok-requires c κs = search needs
@@ -28,12 +33,13 @@ root-ok-requires : tie.Need-root-ok-requires
 root-ok-requires c κs = search needs
 
 returns : tie.Need-returns
-returns c = let p = c .before .before .before .before .before .before .before .before .before .args in let k = c .before .before .before .before .before .before .before .before .before .pre in model-read (p .rs .now) (p .cs .now) (p .qs .now) (p .s .now) (p .d) _ _ _ _ (k .0 .2) (k .1) (c .before .before .before .before .inclusions-ok .ensures) (c .before .before .before .transitivity-ok .ensures) (c .before .rules-ok .ensures ∙ follows-is (p .rs .now) (p .cs .now) (p .qs .now) (p .s .now) (c .before .before .truth-sets .result) (p .d) (k .0 .2) (c .before .before .truth-sets .ensures)) (c .root-ok .ensures ∙ satisfies-is (p .rs .now) (p .cs .now) (p .qs .now) (p .s .now) (c .before .before .truth-sets .result) (p .d) (k .0 .2) (c .before .before .truth-sets .ensures))
+returns c = let p = c .before .before .before .before .before .before .before .before .before .before .before .before .args in let k = c .before .before .before .before .before .before .before .before .before .before .before .before .pre in let I = sized (p .broad) (p .s .now) (p .d) in model-read (p .rs .now) (p .cs .now) (p .qs .now) (p .s .now) (p .broad) _ (p .d) (c .before .before .before .before .before .before .before .name-at .ensures .0) _ _ _ _ (k .0 .2) (k .1) (c .before .before .before .before .before .before .inclusions-ok .ensures) (c .before .before .before .before .before .transitivity-ok .ensures) (c .before .before .rules-ok .ensures ∙ follows-is (p .rs .now) (p .cs .now) (p .qs .now) (c .before .before .before .before .truth-sets .result) I (k .0 .2) (c .before .before .before .before .truth-sets .ensures)) (c .root-ok .ensures ∙ satisfies-is (p .rs .now) (p .cs .now) (p .qs .now) (c .before .before .before .before .truth-sets .result) I (k .0 .2) (c .before .before .before .before .truth-sets .ensures))
 
 pub model-ok-spec : {M : Type 1} → statement M
 model-ok-spec =
     tie.close
     (tie.spec
+    name-at-requires
     inclusions-ok-requires
     transitivity-ok-requires
     truth-sets-requires

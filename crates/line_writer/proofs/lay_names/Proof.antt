@@ -1,26 +1,34 @@
-use Rattle.labels.specs.Labels.{num4}
-use Rattle.lines.specs.Laying.{Names, four-local, laid-none, laid-more}
 use Prim.Native.Nat.{_-_, _≤_}
 use mathlib.Core.Path.{_≡_, _∙_, ap, subst}
 use native.Mathlib.Omega.{arith}
+use native.Mathlib.Nat.{mul-suc}
+use native.Mathlib.Numerals.{add-one}
 use borrow.Author.Needs.{needs}
-use Rattle.line_writer.specs.WriteSteps.{namesIn, elementNames}
+use Rattle.labels.specs.Labels.{nameBytes, namesIn}
+use Rattle.lines.specs.Lines.{nameAt}
+use Rattle.lines.specs.LineLaws.{name-next}
+use Rattle.lines.specs.Laying.{Names, names-local, laid-none, laid-more}
+use Rattle.line_writer.specs.WriteSteps.{namesOf, elementNames}
 use Rattle.line_writer.proofs.lay_names.Statement.{statement}
 use Rattle.line_writer.proofs.lay_names.Tie as tie
 use Rattle.line_writer.proofs.lay_names.Reads as reads
 use Rattle.line_writer.proofs.lay_names.Lts as lts
 use Rattle.evidence.proofs.record_label.Reads as record-label-reads
+use Rattle.labels.proofs.name_bytes.Reads as name-bytes-reads
 use Rattle.line_writer.proofs.name_mask.Reads as name-mask-reads
-use Rattle.line_writer.proofs.put4.Reads as put4-reads
+use Rattle.line_writer.proofs.put_names.Reads as put-names-reads
 
 abbrev Inv-loop : tie.InvT-loop
-Inv-loop buf₀ cs s d k z₀ buf z = (z ≤ d) × Names 1 (elementNames cs s k) buf₀ z buf
+Inv-loop buf₀ cs s d k f w at₀ z₀ buf at z = (z ≤ d) × (at ≡ nameAt (nameBytes (f .wide)) z) × Names (f .wide) 1 (elementNames cs f s k) buf₀ z buf
 
 abbrev μ-loop : tie.MeasureT-loop
-μ-loop buf₀ cs s d k z₀ buf z = d - z
+μ-loop buf₀ cs s d k f w at₀ z₀ buf at z = d - z
+
+name-bytes-requires : tie.Need-name-bytes-requires Inv-loop μ-loop
+name-bytes-requires c κs = search needs
 
 loop-holds : tie.Need-loop-holds Inv-loop μ-loop
-loop-holds c = (omega arith, laid-none 4 num4 four-local _ _ _)
+loop-holds c = let p = c .before .before .before .before .args in (omega arith, omega arith, laid-none (nameBytes (p .f .wide)) (namesIn (p .f .wide)) (names-local (p .f .wide)) _ _ _)
 
 div-record-label : tie.Need-div-record-label Inv-loop μ-loop
 div-record-label c = omega arith
@@ -31,17 +39,11 @@ record-label-requires c κs = search needs
 name-mask-requires : tie.Need-name-mask-requires Inv-loop μ-loop
 name-mask-requires c κs = search needs
 
-cast-put4 : tie.Need-cast-put4 Inv-loop μ-loop
-cast-put4 c = omega arith
+put-names-requires : tie.Need-put-names-requires Inv-loop μ-loop
+put-names-requires c κs = let v = c .before .before .before .before .loop in let l = v .inv .2 .whole in let x = name-next (nameBytes (c .before .before .before .before .before .before .before .before .before .args .f .wide)) (c .before .before .before .before .loop .z) (c .before .before .before .before .before .before .before .before .before .args .d) (omega arith) in (omega arith, rw (c .before .before .before .before .before .before .before .before .before .pre .2) (c .before .name-mask .ensures .1))
 
-mul-put4 : tie.Need-mul-put4 Inv-loop μ-loop
-mul-put4 c = omega arith
-
-add-put4 : tie.Need-add-put4 Inv-loop μ-loop
-add-put4 c = omega arith
-
-put4-requires : tie.Need-put4-requires Inv-loop μ-loop
-put4-requires c κs = let l = c .before .before .before .before .loop .inv .1 .whole in (omega arith, c .before .name-mask .ensures .1)
+add-at : tie.Need-add-at Inv-loop μ-loop
+add-at c = let v = c .before .before .before .before .before .before .before .loop in let x = name-next (nameBytes (c .before .before .before .before .before .before .before .before .before .before .before .before .args .f .wide)) (c .before .before .before .before .before .before .before .loop .z) (c .before .before .before .before .before .before .before .before .before .before .before .before .args .d) (omega arith) in let e = c .before .before .before .before .before .before .before .before .name-bytes .ensures .0 in omega arith
 
 add-z : tie.Need-add-z Inv-loop μ-loop
 add-z c = omega arith
@@ -50,17 +52,19 @@ loop-less : tie.Need-loop-less Inv-loop μ-loop
 loop-less c = omega arith
 
 loop-again : tie.Need-loop-again Inv-loop μ-loop
-loop-again c = let p = c .before .before .before .before .before .before .before .before .before .before .before .args in let v = c .before .before .before .before .before .before .before .loop in (
+loop-again c = let p = c .before .before .before .before .before .before .before .before .before .before .before .before .args in let v = c .before .before .before .before .before .before .before .loop in (
   omega arith,
-  laid-more 4 num4 four-local 1 (v .z) _ (elementNames (p .cs .now) (p .s .now) (p .k)) (p .buf .now) (v .buf) _ (v .inv .1) (c .before .before .put4 .ensures)
-      (c .before .before .before .before .name-mask .ensures .0 ∙ ap (namesIn (p .cs .now)) (c .before .before .before .before .before .record-label .ensures)),
+  (let e = c .before .before .before .before .before .before .before .before .name-bytes .ensures .0 in let x = mul-suc (nameBytes (p .f .wide)) (v .z) in rw (add-one (v .z)) (omega arith)),
+  laid-more (nameBytes (p .f .wide)) (namesIn (p .f .wide)) (names-local (p .f .wide)) 1 (v .z) _ (elementNames (p .cs .now) (p .f) (p .s .now) (p .k)) (p .buf .now) (v .buf) _ (v .inv .2)
+      (rw (v .inv .1) at (c .before .before .put-names .ensures))
+      (c .before .before .before .before .name-mask .ensures .0 ∙ ap (namesOf (p .cs .now)) (c .before .before .before .before .before .record-label .ensures)),
 )
 
 same-length : tie.Need-same-length Inv-loop μ-loop
-same-length c = c .before .loop .inv .1 .whole
+same-length c = c .before .loop .inv .2 .whole
 
 returns : tie.Need-returns Inv-loop μ-loop
-returns c = let p = c .before .before .before .before .before .args in let v = c .before .loop in subst (λ n. Names 1 (elementNames (p .cs .now) (p .s .now) (p .k)) (p .buf .now) n (v .buf)) (let z : v .z ≡ p .d = omega arith in z) (v .inv .1)
+returns c = let p = c .before .before .before .before .before .before .args in let v = c .before .loop in subst (λ n. Names (p .f .wide) 1 (elementNames (p .cs .now) (p .f) (p .s .now) (p .k)) (p .buf .now) n (v .buf)) (let z : v .z ≡ p .d = omega arith in z) (v .inv .2)
 
 pub lay-names-spec : {M : Type 1} → statement M
 lay-names-spec =
@@ -68,14 +72,13 @@ lay-names-spec =
     (tie.spec
     Inv-loop
     μ-loop
+    name-bytes-requires
     loop-holds
     div-record-label
     record-label-requires
     name-mask-requires
-    cast-put4
-    mul-put4
-    add-put4
-    put4-requires
+    put-names-requires
+    add-at
     add-z
     loop-less
     loop-again

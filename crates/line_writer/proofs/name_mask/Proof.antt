@@ -3,7 +3,7 @@ use mathlib.Core.Path.{_≡_}
 use native.Mathlib.Omega.{arith}
 use borrow.Author.Needs.{needs}
 use Rattle.logic.specs.Sets.{setOf}
-use Rattle.labels.specs.Labels.{valueOf}
+use Rattle.labels.specs.Labels.{mostEntries, valueOf}
 use Rattle.words.specs.Words.{set-none, set-more, in-word}
 use Rattle.line_writer.specs.WriteSteps.{nameIn, names-done}
 use Rattle.line_writer.proofs.name_mask.Statement.{statement}
@@ -15,7 +15,7 @@ use Rattle.nodes.proofs.entry_count.Reads as entry-count-reads
 use Rattle.words.proofs.put.Reads as put-reads
 
 abbrev Inv-loop : tie.InvT-loop
-Inv-loop cs x n out₀ e₀ out e = (e ≤ n) × (n ≤ 32) × (out ≡ setOf e (nameIn cs (valueOf x)))
+Inv-loop cs x n out₀ e₀ out e = (e ≤ n) × (n ≤ mostEntries) × (out ≡ setOf e (nameIn cs (valueOf x)))
 
 abbrev μ-loop : tie.MeasureT-loop
 μ-loop cs x n out₀ e₀ out e = n - e
@@ -49,7 +49,7 @@ loop-again c = let v = c .before .before .before .loop in (
 )
 
 returns : tie.Need-returns Inv-loop μ-loop
-returns c = names-done _ _ (c .before .loop .e) _ _ (c .before .before .entry-count .ensures .0) (omega arith) (omega arith) (omega arith) (c .before .loop .inv .2)
+returns c = names-done _ _ (c .before .loop .e) _ _ (c .before .before .entry-count .ensures .0) (omega arith) (omega arith) (c .before .loop .inv .2)
 
 pub name-mask-spec : {M : Type 1} → statement M
 name-mask-spec =

@@ -1,24 +1,25 @@
-use Prim.Native.Nat.{ℕ, _-_, _^_, _≤_}
-use mathlib.Core.Path.{_≡_, _∙_, sym, ap}
-use mathlib.Core.Bool.{Bool, true}
-use native.Mathlib.Omega.{arith}
-use lib.Pow.{pow-pos}
-use borrow.Author.Tests.{not-true, not-false}
-use Rattle.logic.specs.Bounded.{allBelow, all-stop, all-more, all-done}
-use Rattle.labels.specs.Labels.{valueOf}
-use Rattle.rows.specs.HeldRows.{rowsHeld}
-use Rattle.parts.specs.Numbers.{upTo}
-use Rattle.list_cells.specs.CellSteps.{entryIn, cellsCode}
-use Rattle.list_cells.specs.CellRows.{gatheredOn, no-cell, cell-at}
 use Rattle.list_cells.specs.CellGathered.{cells-told}
+use Rattle.list_cells.specs.CellRows.{gatheredOn, no-cell, cell-at}
+use Rattle.list_cells.specs.CellSteps.{cellsCode}
+use Rattle.evidence.specs.Evidence.{labelOf}
+use Rattle.parts.specs.Numbers.{upTo}
+use Rattle.rows.specs.HeldRows.{rowsHeld}
+use Rattle.labels.specs.Labels.{valueOf}
+use Rattle.logic.specs.Bounded.{allBelow, all-stop, all-more, all-done}
 use borrow.Author.Needs.{needs}
+use borrow.Author.Tests.{not-true, not-false}
+use lib.Pow.{pow-pos}
+use native.Mathlib.Nat.{mod-eq-of-lt}
+use native.Mathlib.Omega.{arith}
+use mathlib.Core.Bool.{Bool, true}
+use mathlib.Core.Path.{_≡_, _∙_, sym, ap}
+use Prim.Native.Nat.{ℕ, _-_, _^_, _≤_, _<_}
 use Rattle.list_cells.proofs.cells_ok.Statement.{statement}
 use Rattle.list_cells.proofs.cells_ok.Tie as tie
 use Rattle.list_cells.proofs.cells_ok.Reads as reads
 use Rattle.list_cells.proofs.cells_ok.Lts as lts
 use Rattle.list_cells.proofs.above_of.Reads as above-of-reads
 use Rattle.list_cells.proofs.against_of.Reads as against-of-reads
-use Rattle.list_cells.proofs.carried_entries.Reads as carried-entries-reads
 use Rattle.list_cells.proofs.cell_ok.Reads as cell-ok-reads
 use Rattle.list_cells.proofs.own_of.Reads as own-of-reads
 use Rattle.list_cells.proofs.shown_of.Reads as shown-of-reads
@@ -27,31 +28,37 @@ use Rattle.parts.proofs.up_to.Reads as up-to-reads
 use Rattle.rows.proofs.cell_count.Reads as cell-count-reads
 
 abbrev Inv-loop : tie.InvT-loop
-Inv-loop rs cs s k ds n end shown against above own c₀ c = (1 ≤ c) × (c ≤ end) × (end ≤ 64) × (n ≤ 6) × (end ≡ 2 ^ n) × (allBelow c (gatheredOn s above own shown against ds n) ≡ true)
+Inv-loop rs cs s k ds f n end above own against shown c₀ c = (1 ≤ c) × (c ≤ end) × (end ≤ 64) × (n ≤ 6) × (end ≡ 2 ^ n) ×
+    (allBelow c (gatheredOn (labelOf f s) above own shown against ds n) ≡ true)
 
 abbrev μ-loop : tie.MeasureT-loop
-μ-loop rs cs s k ds n end shown against above own c₀ c = end - c
+μ-loop rs cs s k ds f n end above own against shown c₀ c = end - c
 
 -- what is read before the loop
-abbrev found : tie.After-own-of Inv-loop μ-loop → tie.After-carried-entries Inv-loop μ-loop
+abbrev found : tie.After-shown-of Inv-loop μ-loop → tie.After-cell-count Inv-loop μ-loop
 found c = c .before .before .before .before
 
--- the test of the cells by the arrays that are filled before the loop
-abbrev test : tie.After-own-of Inv-loop μ-loop → ℕ → Bool
-test c = let g = found c .before .before .before .before .before .before .before .args in
-    gatheredOn (g .s .now) (c .before .above-of .result) (c .own-of .result) (c .before .before .before .shown-of .result) (c .before .before .against-of .result) (g .ds .now) (found c .before .before .up-to .result)
+abbrev start : tie.After-shown-of Inv-loop μ-loop → tie.Start Inv-loop μ-loop
+start c = found c .before .before .before .before .before .before
 
-told : (c : tie.After-own-of Inv-loop μ-loop) (t : Bool) → allBelow (2 ^ found c .before .before .up-to .result) (test c) ≡ t
-    → let g = found c .before .before .before .before .before .before .before .args in
-    t ≡ cellsCode (g .rs .now) (g .cs .now) (g .a) (g .s .now) (valueOf (g .x)) (rowsHeld (g .rows) (upTo 6 (g .k))) (g .ds .now) (upTo 6 (g .k))
-told c t h = let b = found c in let g = b .before .before .before .before .before .before .before .args in let n = b .before .before .up-to in
-    cells-told (g .cs .now) (g .a) (valueOf (g .x)) (entryIn (valueOf (b .carried-entries .result))) (g .rows) (n .result) (n .ensures .1) _ _ _ _
-    (c .before .before .before .shown-of .ensures) (c .before .before .against-of .ensures) (c .before .above-of .ensures .0) (c .own-of .ensures) (c .before .above-of .ensures .1)
-    (g .rs .now) (g .s .now) (g .ds .now) (b .carried-entries .ensures) _ t (n .ensures .0) h
+-- the test of the cells by the arrays that are filled before the loop
+abbrev test : tie.After-shown-of Inv-loop μ-loop → ℕ → Bool
+test c = let g = start c .args in
+    gatheredOn (labelOf (g .f) (g .s .now)) (c .before .before .before .above-of .result) (c .before .before .own-of .result)
+    (c .shown-of .result) (c .before .against-of .result) (g .ds .now) (found c .before .up-to .result)
+
+told : (c : tie.After-shown-of Inv-loop μ-loop) (t : Bool) → allBelow (2 ^ found c .before .up-to .result) (test c) ≡ t
+    → let g = start c .args in
+    t ≡ cellsCode (g .rs .now) (g .cs .now) (g .a) (labelOf (g .f) (g .s .now)) (valueOf (g .x)) (rowsHeld (g .rows) (upTo 6 (g .k))) (g .ds .now) (upTo 6 (g .k))
+told c t h = let g = start c .args in let n = found c .before .up-to in let b = c .before .before .before .above-of in
+    cells-told (g .rs .now) (g .cs .now) (g .a) (valueOf (g .x)) (g .rows) (n .result) (n .ensures .1) _ _ _ _
+    (c .shown-of .ensures) (c .before .against-of .ensures) (b .ensures .0) (c .before .before .own-of .ensures) (b .ensures .1)
+    (labelOf (g .f) (g .s .now)) (g .ds .now) _ t (n .ensures .0) h
 
 here : (c : tie.After-cell-ok Inv-loop μ-loop) → c .cell-ok .result ≡ test (c .before .before .before .before) (c .before .before .before .loop .c)
-here c = let e = c .before .before .before .before in let b = found e in let g = b .before .before .before .before .before .before .before .args in
-    cell-at (g .s .now) (e .before .above-of .result) (e .own-of .result) (e .before .before .before .shown-of .result) (e .before .before .against-of .result) (g .ds .now) (b .before .before .up-to .result)
+here c = let e = c .before .before .before .before in let g = start e .args in
+    cell-at (labelOf (g .f) (g .s .now)) (e .before .before .before .above-of .result) (e .before .before .own-of .result)
+    (e .shown-of .result) (e .before .against-of .result) (g .ds .now) (found e .before .up-to .result)
     (c .before .before .before .loop .c) _ _ (omega arith) (c .before .byte .ensures) (c .cell-ok .ensures)
 
 up-to-requires : tie.Need-up-to-requires Inv-loop μ-loop
@@ -60,14 +67,8 @@ up-to-requires c κs = search needs
 cell-count-requires : tie.Need-cell-count-requires Inv-loop μ-loop
 cell-count-requires c κs = search needs
 
-carried-entries-requires : tie.Need-carried-entries-requires Inv-loop μ-loop
-carried-entries-requires c κs = search needs
-
-shown-of-requires : tie.Need-shown-of-requires Inv-loop μ-loop
-shown-of-requires c κs = search needs
-
-against-of-requires : tie.Need-against-of-requires Inv-loop μ-loop
-against-of-requires c κs = search needs
+cast-end : tie.Need-cast-end Inv-loop μ-loop
+cast-end c = omega arith
 
 above-of-requires : tie.Need-above-of-requires Inv-loop μ-loop
 above-of-requires c κs = search needs
@@ -75,24 +76,33 @@ above-of-requires c κs = search needs
 own-of-requires : tie.Need-own-of-requires Inv-loop μ-loop
 own-of-requires c κs = search needs
 
+against-of-requires : tie.Need-against-of-requires Inv-loop μ-loop
+against-of-requires c κs = search needs
+
+shown-of-requires : tie.Need-shown-of-requires Inv-loop μ-loop
+shown-of-requires c κs = search needs
+
 loop-holds : tie.Need-loop-holds Inv-loop μ-loop
-loop-holds c = let b = found c in let n = b .before .before .up-to in let e = b .before .cell-count .ensures .0 ∙ ap (λ m. 2 ^ m) (sym (n .ensures .0)) in let p = pow-pos (n .result) in
-    (omega arith, omega (arith, e, p), b .before .cell-count .ensures .1, n .ensures .1, e, no-cell (b .before .before .before .before .before .before .before .args .s .now) (c .before .above-of .result) (c .own-of .result) (c .before .before .before .shown-of .result) (c .before .before .against-of .result) (b .before .before .before .before .before .before .before .args .ds .now) (n .result))
-
-cast-loop : tie.Need-cast-loop Inv-loop μ-loop
-cast-loop c = search needs
-
-cast-byte : tie.Need-cast-byte Inv-loop μ-loop
-cast-byte c = search needs
+loop-holds c = let b = found c in let n = b .before .up-to in let p = pow-pos (n .result) in
+    let few : b .cell-count .result < 256 = omega (arith, b .cell-count .ensures .1) in
+    let e = mod-eq-of-lt few ∙ b .cell-count .ensures .0 ∙ ap (λ m. 2 ^ m) (sym (n .ensures .0)) in let g = start c .args in (
+      omega arith,
+      omega (arith, e, p),
+      omega (arith, b .cell-count .ensures .1, mod-eq-of-lt few),
+      n .ensures .1,
+      e,
+      no-cell (labelOf (g .f) (g .s .now)) (c .before .before .before .above-of .result) (c .before .before .own-of .result)
+          (c .shown-of .result) (c .before .against-of .result) (g .ds .now) (n .result),
+    )
 
 add-byte : tie.Need-add-byte Inv-loop μ-loop
 add-byte c = omega arith
 
-cast-byte-2 : tie.Need-cast-byte-2 Inv-loop μ-loop
-cast-byte-2 c = search needs
-
 add-byte-2 : tie.Need-add-byte-2 Inv-loop μ-loop
 add-byte-2 c = omega arith
+
+cast-byte : tie.Need-cast-byte Inv-loop μ-loop
+cast-byte c = omega arith
 
 byte-requires : tie.Need-byte-requires Inv-loop μ-loop
 byte-requires c κs = search needs
@@ -124,17 +134,15 @@ cells-ok-spec =
     μ-loop
     up-to-requires
     cell-count-requires
-    carried-entries-requires
-    shown-of-requires
-    against-of-requires
+    cast-end
     above-of-requires
     own-of-requires
+    against-of-requires
+    shown-of-requires
     loop-holds
-    cast-loop
-    cast-byte
     add-byte
-    cast-byte-2
     add-byte-2
+    cast-byte
     byte-requires
     cell-ok-requires
     returns

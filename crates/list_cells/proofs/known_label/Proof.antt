@@ -1,17 +1,18 @@
-use borrow.Author.Needs.{needs}
-use Prim.Native.Nat.{_-_, _≤_}
-use native.Mathlib.Omega.{arith}
-use Rattle.logic.specs.Bounded.{anyBelow}
-use Rattle.logic.specs.Sets.{has}
-use Rattle.labels.specs.Labels.{valueOf}
-use Rattle.list_cells.specs.CellSteps.{inRoom, Puts}
+use Rattle.list_cells.specs.CellRows.{maskAt, labelAt, gives, row-told, gathered-is}
 use Rattle.list_cells.specs.CellLaws.{adds-none, adds-more, adds-done}
-use Rattle.list_cells.specs.CellRows.{labelAt, gives, row-told, gathered-is}
+use Rattle.list_cells.specs.CellSteps.{inRoom, Puts}
+use Rattle.labels.specs.Labels.{valueOf}
+use Rattle.logic.specs.Sets.{has}
+use Rattle.logic.specs.Bounded.{anyBelow}
+use lib.Dec.{eqb}
+use native.Mathlib.Omega.{arith}
+use Prim.Native.Nat.{_-_, _≤_}
+use borrow.Author.Needs.{needs}
 use Rattle.list_cells.proofs.known_label.Statement.{statement}
 use Rattle.list_cells.proofs.known_label.Tie as tie
 use Rattle.list_cells.proofs.known_label.Reads as reads
 use Rattle.list_cells.proofs.known_label.Lts as lts
-use Rattle.labels.proofs.put.Reads as put-reads
+use Rattle.labels.proofs.only.Reads as only-reads
 use Rattle.list_cells.proofs.cell_roles.Reads as cell-roles-reads
 use Rattle.list_cells.proofs.meet.Reads as meet-reads
 use Rattle.list_cells.proofs.with_row.Reads as with-row-reads
@@ -26,44 +27,41 @@ abbrev μ-loop : tie.MeasureT-loop
 cell-roles-requires : tie.Need-cell-roles-requires Inv-loop μ-loop
 cell-roles-requires c κs = search needs
 
-put-requires : tie.Need-put-requires Inv-loop μ-loop
-put-requires c κs = search needs
+only-requires : tie.Need-only-requires Inv-loop μ-loop
+only-requires c κs = search needs
 
 loop-holds : tie.Need-loop-holds Inv-loop μ-loop
 loop-holds c = (omega arith, adds-none inRoom _ _)
 
 cast-inside : tie.Need-cast-inside Inv-loop μ-loop
-cast-inside c = search needs
+cast-inside c = omega arith
 
 mul-inside : tie.Need-mul-inside Inv-loop μ-loop
-mul-inside c = search needs
+mul-inside c = omega arith
 
 array-copy-out-inside : tie.Need-array-copy-out-inside Inv-loop μ-loop
-array-copy-out-inside c = search needs
-
-cast-outside : tie.Need-cast-outside Inv-loop μ-loop
-cast-outside c = search needs
-
-mul-outside : tie.Need-mul-outside Inv-loop μ-loop
-mul-outside c = search needs
-
-array-copy-out-outside : tie.Need-array-copy-out-outside Inv-loop μ-loop
-array-copy-out-outside c = search needs
+array-copy-out-inside c = omega arith
 
 has16-requires : tie.Need-has16-requires Inv-loop μ-loop
 has16-requires c κs = search needs
 
 cast-meet : tie.Need-cast-meet Inv-loop μ-loop
-cast-meet c = search needs
+cast-meet c = omega arith
 
 mul-meet : tie.Need-mul-meet Inv-loop μ-loop
-mul-meet c = search needs
+mul-meet c = omega arith
 
 array-read-meet : tie.Need-array-read-meet Inv-loop μ-loop
-array-read-meet c = search needs
+array-read-meet c = omega arith
 
 meet-requires : tie.Need-meet-requires Inv-loop μ-loop
 meet-requires c κs = search needs
+
+cast-with-row : tie.Need-cast-with-row Inv-loop μ-loop
+cast-with-row c = omega arith
+
+array-read-with-row : tie.Need-array-read-with-row Inv-loop μ-loop
+array-read-with-row c = omega arith
 
 with-row-requires : tie.Need-with-row-requires Inv-loop μ-loop
 with-row-requires c κs = search needs
@@ -75,16 +73,19 @@ loop-less : tie.Need-loop-less Inv-loop μ-loop
 loop-less c = omega arith
 
 loop-again : tie.Need-loop-again Inv-loop μ-loop
-loop-again c = let l = c .before .before .before .before .before .before in let v = l .loop .inv in let e = l .before .before .before .args in let i = l .loop .i in (
-  omega arith,
-  adds-more inRoom (valueOf (l .before .put .result)) (valueOf (l .loop .out)) i _ (v .1) _
-      (row-told (valueOf (l .loop .out)) (valueOf (c .with-row .result)) _ _ (has (labelAt (e .t3) i)) (has (labelAt (e .t4) i)) _ _ (c .before .before .has16 .ensures) (c .before .meet .ensures) (c .with-row .ensures)),
-)
+loop-again c = let l = c .before .before .before .before .before in let v = l .loop .inv in
+    let e = l .before .before .before .args in let i = l .loop .i in (
+      omega arith,
+      adds-more inRoom (valueOf (l .before .only .result)) (valueOf (l .loop .out)) i _ (v .1) _
+          (row-told (valueOf (l .loop .out)) (valueOf (c .with-row .result)) _ _ (has (labelAt (e .t3) i)) (eqb (maskAt
+          (e .t4) i)) _ _ (c .before .before .has16 .ensures) (c .before .meet .ensures)
+          (c .with-row .ensures)),
+    )
 
 returns : tie.Need-returns Inv-loop μ-loop
 returns c = let l = c .before in let e = l .before .before .before .args in let r = l .before .before .cell-roles in
-    gathered-is (e .above) (e .t2) (e .t3) (e .t4) (e .c) (r .result) (valueOf (l .before .put .result)) (valueOf (l .loop .out)) (r .ensures) (l .before .put .ensures)
-    (adds-done inRoom (valueOf (l .before .put .result)) (valueOf (l .loop .out)) (l .loop .i) _ (l .loop .inv .1) 6 (omega arith) (omega arith))
+    gathered-is (e .above) (e .t2) (e .t3) (e .t4) (e .c) (r .result) (valueOf (l .before .only .result)) (valueOf (l .loop .out)) (r .ensures) (l .before .only .ensures)
+    (adds-done inRoom (valueOf (l .before .only .result)) (valueOf (l .loop .out)) (l .loop .i) _ (l .loop .inv .1) 6 (omega arith) (omega arith))
 
 pub known-label-spec : {M : Type 1} → statement M
 known-label-spec =
@@ -93,19 +94,18 @@ known-label-spec =
     Inv-loop
     μ-loop
     cell-roles-requires
-    put-requires
+    only-requires
     loop-holds
     cast-inside
     mul-inside
     array-copy-out-inside
-    cast-outside
-    mul-outside
-    array-copy-out-outside
     has16-requires
     cast-meet
     mul-meet
     array-read-meet
     meet-requires
+    cast-with-row
+    array-read-with-row
     with-row-requires
     add-i
     loop-less

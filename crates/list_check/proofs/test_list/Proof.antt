@@ -8,6 +8,7 @@ use Rattle.list_check.proofs.test_list.Statement.{statement}
 use Rattle.list_check.proofs.test_list.Tie as tie
 use Rattle.list_check.proofs.test_list.Reads as reads
 use Rattle.list_check.proofs.test_list.Lts as lts
+use Rattle.evidence.proofs.layout_of.Reads as layout-of-reads
 use Rattle.evidence.proofs.read_head.Reads as read-head-reads
 use Rattle.list_check.proofs.test_all.Reads as test-all-reads
 
@@ -17,9 +18,12 @@ read-head-requires c κs = search needs
 enum-known-head : tie.Need-enum-known-head
 enum-known-head c = search needs
 
+layout-of-requires : tie.Need-layout-of-requires
+layout-of-requires c κs = search needs
+
 test-all-requires : tie.Need-test-all-requires
-test-all-requires c κs = let g = c .before .before .before .before .before .before .before .before .args in
-    head-is-list (g .s .now) _ (sym (c .before .head .given .1) ∙ c .before .before .before .read-head .ensures .0) .1 .1
+test-all-requires c κs = let g = c .before .before .before .before .before .before .before .before .before .args in
+    head-is-list (g .s .now) _ (sym (c .before .before .head .given .1) ∙ c .before .before .before .before .read-head .ensures .0) .1 .1
 
 enum-told : tie.Need-enum-told
 enum-told c = search needs
@@ -28,9 +32,9 @@ enum-told-2 : tie.Need-enum-told-2
 enum-told-2 c = search needs
 
 returns : tie.Need-returns
-returns c = let g = c .before .before .before .before .before .before .before .before .before .args in
-    let w = head-is-list (g .s .now) _ (sym (c .before .before .head .given .1) ∙ c .before .before .before .before .read-head .ensures .0) in
-    c .test-all .ensures ∙ head-on (g .rs .now) (g .cs .now) (g .qs .now) (g .a) (valueOf (g .want)) (g .s .now) _ (w .0) (w .1 .0)
+returns c = let g = c .before .before .before .before .before .before .before .before .before .before .args in
+    let w = head-is-list (g .s .now) _ (sym (c .before .before .before .head .given .1) ∙ c .before .before .before .before .before .read-head .ensures .0) in
+    c .test-all .ensures ∙ head-on (g .rs .now) (g .cs .now) (g .qs .now) (g .a) (valueOf (g .want)) (g .s .now) _ _ (w .0) (w .1 .0) (c .before .layout-of .ensures)
 
 returns-2 : tie.Need-returns-2
 returns-2 c = let g = c .before .before .before .before .before .before .before .args in head-stop (g .rs .now) (g .cs .now) (g .qs .now) (g .a) (valueOf (g .want)) (g .s .now)
@@ -48,6 +52,7 @@ test-list-spec =
     (tie.spec
     read-head-requires
     enum-known-head
+    layout-of-requires
     test-all-requires
     enum-told
     enum-told-2

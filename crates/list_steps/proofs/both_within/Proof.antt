@@ -34,19 +34,19 @@ enum-told-4 : tie.Need-enum-told-4
 enum-told-4 c = search needs
 
 returns : tie.Need-returns
-returns c = let g = c .before .before .before .before .before .before .before .args in c .within-two .ensures ∙ ap (asBoth (λ a b. within (labelOf (g .s .now) (g .c)) (adding (adding (valueOf (g .x)) (literal a)) (literal b)))) (sym (c .before .before .concept .given .1)) ∙ both-asked (g .cs .now) (g .e .0) (λ a b. within (labelOf (g .s .now) (g .c)) (adding (adding (valueOf (g .x)) (literal a)) (literal b))) (λ a b. within (labelOf (g .s .now) (g .c)) (adding (adding (valueOf (g .x)) a) b)) _ (λ a b. rw (literal-code a, literal-code b) refl) (c .before .before .before .before .concept-at .ensures .0)
+returns c = let g = c .before .before .before .before .before .before .before .args in c .within-two .ensures ∙ ap (asBoth (λ a b. within (labelOf (g .f) (g .s .now) (g .c)) (adding (adding (valueOf (g .x)) (literal a)) (literal b)))) (sym (c .before .before .concept .given .1)) ∙ both-asked (g .cs .now) (g .e .0) (λ a b. within (labelOf (g .f) (g .s .now) (g .c)) (adding (adding (valueOf (g .x)) (literal a)) (literal b))) (λ a b. within (labelOf (g .f) (g .s .now) (g .c)) (adding (adding (valueOf (g .x)) a) b)) _ (λ a b. rw (literal-code a, literal-code b) refl) (c .before .before .before .before .concept-at .ensures .0)
 
 returns-2 : tie.Need-returns-2
-returns-2 c = let g = c .before .before .before .before .before .args in ap (asBoth (λ a b. within (labelOf (g .s .now) (g .c)) (adding (adding (valueOf (g .x)) (literal a)) (literal b)))) (sym (c .enum-told .given .1)) ∙ both-asked (g .cs .now) (g .e .0) (λ a b. within (labelOf (g .s .now) (g .c)) (adding (adding (valueOf (g .x)) (literal a)) (literal b))) (λ a b. within (labelOf (g .s .now) (g .c)) (adding (adding (valueOf (g .x)) a) b)) _ (λ a b. rw (literal-code a, literal-code b) refl) (c .before .before .concept-at .ensures .0)
+returns-2 c = let g = c .before .before .before .before .before .args in ap (asBoth (λ a b. within (labelOf (g .f) (g .s .now) (g .c)) (adding (adding (valueOf (g .x)) (literal a)) (literal b)))) (sym (c .enum-told .given .1)) ∙ both-asked (g .cs .now) (g .e .0) (λ a b. within (labelOf (g .f) (g .s .now) (g .c)) (adding (adding (valueOf (g .x)) (literal a)) (literal b))) (λ a b. within (labelOf (g .f) (g .s .now) (g .c)) (adding (adding (valueOf (g .x)) a) b)) _ (λ a b. rw (literal-code a, literal-code b) refl) (c .before .before .concept-at .ensures .0)
 
 returns-3 : tie.Need-returns-3
-returns-3 c = let g = c .before .before .before .before .before .args in ap (asBoth (λ a b. within (labelOf (g .s .now) (g .c)) (adding (adding (valueOf (g .x)) (literal a)) (literal b)))) (sym (c .enum-told2 .given .1)) ∙ both-asked (g .cs .now) (g .e .0) (λ a b. within (labelOf (g .s .now) (g .c)) (adding (adding (valueOf (g .x)) (literal a)) (literal b))) (λ a b. within (labelOf (g .s .now) (g .c)) (adding (adding (valueOf (g .x)) a) b)) _ (λ a b. rw (literal-code a, literal-code b) refl) (c .before .before .concept-at .ensures .0)
+returns-3 c = let g = c .before .before .before .before .before .args in ap (asBoth (λ a b. within (labelOf (g .f) (g .s .now) (g .c)) (adding (adding (valueOf (g .x)) (literal a)) (literal b)))) (sym (c .enum-told2 .given .1)) ∙ both-asked (g .cs .now) (g .e .0) (λ a b. within (labelOf (g .f) (g .s .now) (g .c)) (adding (adding (valueOf (g .x)) (literal a)) (literal b))) (λ a b. within (labelOf (g .f) (g .s .now) (g .c)) (adding (adding (valueOf (g .x)) a) b)) _ (λ a b. rw (literal-code a, literal-code b) refl) (c .before .before .concept-at .ensures .0)
 
 returns-4 : tie.Need-returns-4
-returns-4 c = let g = c .before .before .before .before .before .args in ap (asBoth (λ a b. within (labelOf (g .s .now) (g .c)) (adding (adding (valueOf (g .x)) (literal a)) (literal b)))) (sym (c .enum-told3 .given .1)) ∙ both-asked (g .cs .now) (g .e .0) (λ a b. within (labelOf (g .s .now) (g .c)) (adding (adding (valueOf (g .x)) (literal a)) (literal b))) (λ a b. within (labelOf (g .s .now) (g .c)) (adding (adding (valueOf (g .x)) a) b)) _ (λ a b. rw (literal-code a, literal-code b) refl) (c .before .before .concept-at .ensures .0)
+returns-4 c = let g = c .before .before .before .before .before .args in ap (asBoth (λ a b. within (labelOf (g .f) (g .s .now) (g .c)) (adding (adding (valueOf (g .x)) (literal a)) (literal b)))) (sym (c .enum-told3 .given .1)) ∙ both-asked (g .cs .now) (g .e .0) (λ a b. within (labelOf (g .f) (g .s .now) (g .c)) (adding (adding (valueOf (g .x)) (literal a)) (literal b))) (λ a b. within (labelOf (g .f) (g .s .now) (g .c)) (adding (adding (valueOf (g .x)) a) b)) _ (λ a b. rw (literal-code a, literal-code b) refl) (c .before .before .concept-at .ensures .0)
 
 returns-5 : tie.Need-returns-5
-returns-5 c = let g = c .before .before .before .before .before .args in ap (asBoth (λ a b. within (labelOf (g .s .now) (g .c)) (adding (adding (valueOf (g .x)) (literal a)) (literal b)))) (sym (c .enum-told4 .given .1)) ∙ both-asked (g .cs .now) (g .e .0) (λ a b. within (labelOf (g .s .now) (g .c)) (adding (adding (valueOf (g .x)) (literal a)) (literal b))) (λ a b. within (labelOf (g .s .now) (g .c)) (adding (adding (valueOf (g .x)) a) b)) _ (λ a b. rw (literal-code a, literal-code b) refl) (c .before .before .concept-at .ensures .0)
+returns-5 c = let g = c .before .before .before .before .before .args in ap (asBoth (λ a b. within (labelOf (g .f) (g .s .now) (g .c)) (adding (adding (valueOf (g .x)) (literal a)) (literal b)))) (sym (c .enum-told4 .given .1)) ∙ both-asked (g .cs .now) (g .e .0) (λ a b. within (labelOf (g .f) (g .s .now) (g .c)) (adding (adding (valueOf (g .x)) (literal a)) (literal b))) (λ a b. within (labelOf (g .f) (g .s .now) (g .c)) (adding (adding (valueOf (g .x)) a) b)) _ (λ a b. rw (literal-code a, literal-code b) refl) (c .before .before .concept-at .ensures .0)
 
 pub both-within-spec : {M : Type 1} → statement M
 both-within-spec =

@@ -1,7 +1,5 @@
-use Prim.Native.Nat.{_<_, _^_}
-use native.Mathlib.Omega.{arith}
 use mathlib.Core.Path.{_∙_}
-use Rattle.labels.specs.Labels.{valueOf}
+use Rattle.labels.specs.Labels.{valueOf, label-few}
 use Rattle.list_steps.specs.StepSteps.{past-case, case-odd, case-even}
 use borrow.Author.Needs.{needs}
 use Rattle.list_steps.proofs.holds_case.Statement.{statement}
@@ -11,7 +9,7 @@ use Rattle.list_steps.proofs.holds_case.Lts as lts
 use Rattle.labels.proofs.holds.Reads as holds-reads
 
 returns : tie.Need-returns
-returns c = let g = c .before .before .args in let few : valueOf (g .x) < 2 ^ 64 = omega arith in past-case (valueOf (g .x)) (g .e .0) few (g .denied) (c .if1 .taken)
+returns c = let g = c .before .before .args in let few = label-few (g .x) (search needs) (search needs) in past-case (valueOf (g .x)) (g .e .0) few (g .denied) (c .if1 .taken)
 
 mul-holds : tie.Need-mul-holds
 mul-holds c = search needs

@@ -46,19 +46,19 @@ enum-told-4 : tie.Need-enum-told-4
 enum-told-4 c = search needs
 
 returns : tie.Need-returns
-returns c = let g = c .before .before .before .before .before .before .before .before .before .before .args in ap₂ _&&_ (c .before .before .within-one .ensures ∙ ap (λ l. within (labelOf (g .s .now) (g .c)) (adding (valueOf (g .x)) (literal l))) (c .before .before .before .opposite .ensures)) (c .within-one2 .ensures ∙ ap (λ l. within (labelOf (g .s .now) (g .d)) (adding (valueOf (g .x)) (literal l))) (c .before .opposite2 .ensures)) ∙ ap (asBoth (λ a b. within (labelOf (g .s .now) (g .c)) (adding (valueOf (g .x)) (literal (opposed a))) && within (labelOf (g .s .now) (g .d)) (adding (valueOf (g .x)) (literal (opposed b))))) (sym (c .before .before .before .before .before .concept .given .1)) ∙ both-asked (g .cs .now) (g .e .0) (λ a b. within (labelOf (g .s .now) (g .c)) (adding (valueOf (g .x)) (literal (opposed a))) && within (labelOf (g .s .now) (g .d)) (adding (valueOf (g .x)) (literal (opposed b)))) (λ a b. within (labelOf (g .s .now) (g .c)) (adding (valueOf (g .x)) (opposite a)) && within (labelOf (g .s .now) (g .d)) (adding (valueOf (g .x)) (opposite b))) _ (λ a b. rw (literal-code a, literal-code b, literal-code (opposite a), literal-code (opposite b)) refl) (c .before .before .before .before .before .before .before .concept-at .ensures .0)
+returns c = let g = c .before .before .before .before .before .before .before .before .before .before .args in ap₂ _&&_ (c .before .before .within-one .ensures ∙ ap (λ l. within (labelOf (g .f) (g .s .now) (g .c)) (adding (valueOf (g .x)) (literal l))) (c .before .before .before .opposite .ensures)) (c .within-one2 .ensures ∙ ap (λ l. within (labelOf (g .f) (g .s .now) (g .d)) (adding (valueOf (g .x)) (literal l))) (c .before .opposite2 .ensures)) ∙ ap (asBoth (λ a b. within (labelOf (g .f) (g .s .now) (g .c)) (adding (valueOf (g .x)) (literal (opposed a))) && within (labelOf (g .f) (g .s .now) (g .d)) (adding (valueOf (g .x)) (literal (opposed b))))) (sym (c .before .before .before .before .before .concept .given .1)) ∙ both-asked (g .cs .now) (g .e .0) (λ a b. within (labelOf (g .f) (g .s .now) (g .c)) (adding (valueOf (g .x)) (literal (opposed a))) && within (labelOf (g .f) (g .s .now) (g .d)) (adding (valueOf (g .x)) (literal (opposed b)))) (λ a b. within (labelOf (g .f) (g .s .now) (g .c)) (adding (valueOf (g .x)) (opposite a)) && within (labelOf (g .f) (g .s .now) (g .d)) (adding (valueOf (g .x)) (opposite b))) _ (λ a b. rw (literal-code a, literal-code b, literal-code (opposite a), literal-code (opposite b)) refl) (c .before .before .before .before .before .before .before .concept-at .ensures .0)
 
 returns-2 : tie.Need-returns-2
-returns-2 c = let g = c .before .before .before .before .before .args in ap (asBoth (λ a b. within (labelOf (g .s .now) (g .c)) (adding (valueOf (g .x)) (literal (opposed a))) && within (labelOf (g .s .now) (g .d)) (adding (valueOf (g .x)) (literal (opposed b))))) (sym (c .enum-told .given .1)) ∙ both-asked (g .cs .now) (g .e .0) (λ a b. within (labelOf (g .s .now) (g .c)) (adding (valueOf (g .x)) (literal (opposed a))) && within (labelOf (g .s .now) (g .d)) (adding (valueOf (g .x)) (literal (opposed b)))) (λ a b. within (labelOf (g .s .now) (g .c)) (adding (valueOf (g .x)) (opposite a)) && within (labelOf (g .s .now) (g .d)) (adding (valueOf (g .x)) (opposite b))) _ (λ a b. rw (literal-code a, literal-code b, literal-code (opposite a), literal-code (opposite b)) refl) (c .before .before .concept-at .ensures .0)
+returns-2 c = let g = c .before .before .before .before .before .args in ap (asBoth (λ a b. within (labelOf (g .f) (g .s .now) (g .c)) (adding (valueOf (g .x)) (literal (opposed a))) && within (labelOf (g .f) (g .s .now) (g .d)) (adding (valueOf (g .x)) (literal (opposed b))))) (sym (c .enum-told .given .1)) ∙ both-asked (g .cs .now) (g .e .0) (λ a b. within (labelOf (g .f) (g .s .now) (g .c)) (adding (valueOf (g .x)) (literal (opposed a))) && within (labelOf (g .f) (g .s .now) (g .d)) (adding (valueOf (g .x)) (literal (opposed b)))) (λ a b. within (labelOf (g .f) (g .s .now) (g .c)) (adding (valueOf (g .x)) (opposite a)) && within (labelOf (g .f) (g .s .now) (g .d)) (adding (valueOf (g .x)) (opposite b))) _ (λ a b. rw (literal-code a, literal-code b, literal-code (opposite a), literal-code (opposite b)) refl) (c .before .before .concept-at .ensures .0)
 
 returns-3 : tie.Need-returns-3
-returns-3 c = let g = c .before .before .before .before .before .args in ap (asBoth (λ a b. within (labelOf (g .s .now) (g .c)) (adding (valueOf (g .x)) (literal (opposed a))) && within (labelOf (g .s .now) (g .d)) (adding (valueOf (g .x)) (literal (opposed b))))) (sym (c .enum-told2 .given .1)) ∙ both-asked (g .cs .now) (g .e .0) (λ a b. within (labelOf (g .s .now) (g .c)) (adding (valueOf (g .x)) (literal (opposed a))) && within (labelOf (g .s .now) (g .d)) (adding (valueOf (g .x)) (literal (opposed b)))) (λ a b. within (labelOf (g .s .now) (g .c)) (adding (valueOf (g .x)) (opposite a)) && within (labelOf (g .s .now) (g .d)) (adding (valueOf (g .x)) (opposite b))) _ (λ a b. rw (literal-code a, literal-code b, literal-code (opposite a), literal-code (opposite b)) refl) (c .before .before .concept-at .ensures .0)
+returns-3 c = let g = c .before .before .before .before .before .args in ap (asBoth (λ a b. within (labelOf (g .f) (g .s .now) (g .c)) (adding (valueOf (g .x)) (literal (opposed a))) && within (labelOf (g .f) (g .s .now) (g .d)) (adding (valueOf (g .x)) (literal (opposed b))))) (sym (c .enum-told2 .given .1)) ∙ both-asked (g .cs .now) (g .e .0) (λ a b. within (labelOf (g .f) (g .s .now) (g .c)) (adding (valueOf (g .x)) (literal (opposed a))) && within (labelOf (g .f) (g .s .now) (g .d)) (adding (valueOf (g .x)) (literal (opposed b)))) (λ a b. within (labelOf (g .f) (g .s .now) (g .c)) (adding (valueOf (g .x)) (opposite a)) && within (labelOf (g .f) (g .s .now) (g .d)) (adding (valueOf (g .x)) (opposite b))) _ (λ a b. rw (literal-code a, literal-code b, literal-code (opposite a), literal-code (opposite b)) refl) (c .before .before .concept-at .ensures .0)
 
 returns-4 : tie.Need-returns-4
-returns-4 c = let g = c .before .before .before .before .before .args in ap (asBoth (λ a b. within (labelOf (g .s .now) (g .c)) (adding (valueOf (g .x)) (literal (opposed a))) && within (labelOf (g .s .now) (g .d)) (adding (valueOf (g .x)) (literal (opposed b))))) (sym (c .enum-told3 .given .1)) ∙ both-asked (g .cs .now) (g .e .0) (λ a b. within (labelOf (g .s .now) (g .c)) (adding (valueOf (g .x)) (literal (opposed a))) && within (labelOf (g .s .now) (g .d)) (adding (valueOf (g .x)) (literal (opposed b)))) (λ a b. within (labelOf (g .s .now) (g .c)) (adding (valueOf (g .x)) (opposite a)) && within (labelOf (g .s .now) (g .d)) (adding (valueOf (g .x)) (opposite b))) _ (λ a b. rw (literal-code a, literal-code b, literal-code (opposite a), literal-code (opposite b)) refl) (c .before .before .concept-at .ensures .0)
+returns-4 c = let g = c .before .before .before .before .before .args in ap (asBoth (λ a b. within (labelOf (g .f) (g .s .now) (g .c)) (adding (valueOf (g .x)) (literal (opposed a))) && within (labelOf (g .f) (g .s .now) (g .d)) (adding (valueOf (g .x)) (literal (opposed b))))) (sym (c .enum-told3 .given .1)) ∙ both-asked (g .cs .now) (g .e .0) (λ a b. within (labelOf (g .f) (g .s .now) (g .c)) (adding (valueOf (g .x)) (literal (opposed a))) && within (labelOf (g .f) (g .s .now) (g .d)) (adding (valueOf (g .x)) (literal (opposed b)))) (λ a b. within (labelOf (g .f) (g .s .now) (g .c)) (adding (valueOf (g .x)) (opposite a)) && within (labelOf (g .f) (g .s .now) (g .d)) (adding (valueOf (g .x)) (opposite b))) _ (λ a b. rw (literal-code a, literal-code b, literal-code (opposite a), literal-code (opposite b)) refl) (c .before .before .concept-at .ensures .0)
 
 returns-5 : tie.Need-returns-5
-returns-5 c = let g = c .before .before .before .before .before .args in ap (asBoth (λ a b. within (labelOf (g .s .now) (g .c)) (adding (valueOf (g .x)) (literal (opposed a))) && within (labelOf (g .s .now) (g .d)) (adding (valueOf (g .x)) (literal (opposed b))))) (sym (c .enum-told4 .given .1)) ∙ both-asked (g .cs .now) (g .e .0) (λ a b. within (labelOf (g .s .now) (g .c)) (adding (valueOf (g .x)) (literal (opposed a))) && within (labelOf (g .s .now) (g .d)) (adding (valueOf (g .x)) (literal (opposed b)))) (λ a b. within (labelOf (g .s .now) (g .c)) (adding (valueOf (g .x)) (opposite a)) && within (labelOf (g .s .now) (g .d)) (adding (valueOf (g .x)) (opposite b))) _ (λ a b. rw (literal-code a, literal-code b, literal-code (opposite a), literal-code (opposite b)) refl) (c .before .before .concept-at .ensures .0)
+returns-5 c = let g = c .before .before .before .before .before .args in ap (asBoth (λ a b. within (labelOf (g .f) (g .s .now) (g .c)) (adding (valueOf (g .x)) (literal (opposed a))) && within (labelOf (g .f) (g .s .now) (g .d)) (adding (valueOf (g .x)) (literal (opposed b))))) (sym (c .enum-told4 .given .1)) ∙ both-asked (g .cs .now) (g .e .0) (λ a b. within (labelOf (g .f) (g .s .now) (g .c)) (adding (valueOf (g .x)) (literal (opposed a))) && within (labelOf (g .f) (g .s .now) (g .d)) (adding (valueOf (g .x)) (literal (opposed b)))) (λ a b. within (labelOf (g .f) (g .s .now) (g .c)) (adding (valueOf (g .x)) (opposite a)) && within (labelOf (g .f) (g .s .now) (g .d)) (adding (valueOf (g .x)) (opposite b))) _ (λ a b. rw (literal-code a, literal-code b, literal-code (opposite a), literal-code (opposite b)) refl) (c .before .before .concept-at .ensures .0)
 
 pub sides-within-spec : {M : Type 1} → statement M
 sides-within-spec =

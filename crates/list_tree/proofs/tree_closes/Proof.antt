@@ -12,7 +12,7 @@ use Rattle.list_tree.proofs.tree_closes.Tie as tie
 use Rattle.list_tree.proofs.tree_closes.Reads as reads
 use Rattle.list_tree.proofs.tree_closes.Lts as lts
 use Rattle.list_leaf.proofs.open_cells.Reads as open-cells-reads
-use Rattle.list_tree.proofs.closes_at.Reads as closes-at-reads
+use Rattle.list_tree.proofs.halves_close.Reads as halves-close-reads
 use Rattle.list_tree.proofs.fit_node.Reads as fit-node-reads
 use Rattle.list_tree.proofs.row_limits.Reads as row-limits-reads
 use Rattle.rows.proofs.cell_count.Reads as cell-count-reads
@@ -62,8 +62,17 @@ enum-known-root c = search needs
 enum-told-2 : tie.Need-enum-told-2
 enum-told-2 c = search needs
 
-closes-at-requires : tie.Need-closes-at-requires
-closes-at-requires c κs = let o = c .before .before .before .before .before .open-cells in let l = c .before .before .before .before .before .before .before .row-limits in let b = c .before .before .before .before .before .before .before .before .before .cell-count in let a = c .before .before .before .before .before .before .before .before .before .before .before .before .args in (omega arith, omega arith, omega arith, l .ensures .0, among-made (a .k) (take (2 + a .k + (b .result - 1) - (2 + a .k)) (drop (2 + a .k) (a .ds .now))) (o .result) (o .ensures .0) (o .ensures .1))
+halves-close-requires : tie.Need-halves-close-requires
+halves-close-requires c κs = let o = c .before .before .before .before .before .open-cells in
+    let l = c .before .before .before .before .before .before .before .row-limits in
+    let b = c .before .before .before .before .before .before .before .before .before .cell-count in
+    let a = c .before .before .before .before .before .before .before .before .before .before .before .before .args in (
+      omega arith,
+      l .ensures .0,
+      among-made (a .k) (take (2 + a .k + (b .result - 1) - (2 + a .k)) (drop (2 + a .k) (a .ds .now))) (o .result) (o .ensures .0)
+          (o .ensures .1),
+      sym (c .before .enum-told2 .given .1) ∙ c .before .before .before .fit-node .ensures .0,
+    )
 
 returns-3 : tie.Need-returns-3
 returns-3 c = let o = c .before .before .before .before .open-cells in let l = c .before .before .before .before .before .before .row-limits in let b = c .before .before .before .before .before .before .before .before .cell-count in let a = c .before .before .before .before .before .before .before .before .before .before .before .args in let e = cells-told (a .k) (b .result) (omega arith) (b .ensures .0) in closing-told (a .rows) (a .ds .now) (a .k) (l .result) _ (0) (omega arith) (omega arith) (omega arith) (l .ensures .1) (o .result) (o .ensures .0) (o .ensures .1) (closed-off (a .ds .now) (a .k) (marked (o .result)) (a .k) (limitsHeld (a .k) (l .result) (a .k)) (2 + a .k + (b .result - 1)) 8 (sym (c .enum-told .given .1) ∙ c .before .before .fit-node .ensures .0))
@@ -72,7 +81,13 @@ returns-4 : tie.Need-returns-4
 returns-4 c = let o = c .before .before .before .before .before .open-cells in let l = c .before .before .before .before .before .before .before .row-limits in let b = c .before .before .before .before .before .before .before .before .before .cell-count in let a = c .before .before .before .before .before .before .before .before .before .before .before .before .args in let e = cells-told (a .k) (b .result) (omega arith) (b .ensures .0) in closing-told (a .rows) (a .ds .now) (a .k) (l .result) _ (c .before .root .given .0 .0) (omega arith) (omega arith) (omega arith) (l .ensures .1) (o .result) (o .ensures .0) (o .ensures .1) (closed-leaf (a .ds .now) (a .k) (marked (o .result)) (a .k) (limitsHeld (a .k) (l .result) (a .k)) (2 + a .k + (b .result - 1)) 8 (c .before .root .given .0 .0) (sym (c .before .root .given .1) ∙ c .before .before .before .fit-node .ensures .0))
 
 returns-5 : tie.Need-returns-5
-returns-5 c = let o = c .before .before .before .before .before .before .open-cells in let l = c .before .before .before .before .before .before .before .before .row-limits in let b = c .before .before .before .before .before .before .before .before .before .before .cell-count in let a = c .before .before .before .before .before .before .before .before .before .before .before .before .before .args in let e = cells-told (a .k) (b .result) (omega arith) (b .ensures .0) in closing-told (a .rows) (a .ds .now) (a .k) (l .result) _ (c .closes-at .result) (omega arith) (omega arith) (omega arith) (l .ensures .1) (o .result) (o .ensures .0) (o .ensures .1) (c .closes-at .ensures)
+returns-5 c = let o = c .before .before .before .before .before .before .open-cells in
+    let l = c .before .before .before .before .before .before .before .before .row-limits in
+    let b = c .before .before .before .before .before .before .before .before .before .before .cell-count in
+    let a = c .before .before .before .before .before .before .before .before .before .before .before .before .before .args in
+    let e = cells-told (a .k) (b .result) (omega arith) (b .ensures .0) in
+    closing-told (a .rows) (a .ds .now) (a .k) (l .result) _ (c .halves-close .result) (omega arith) (omega arith) (omega arith)
+    (l .ensures .1) (o .result) (o .ensures .0) (o .ensures .1) (c .halves-close .ensures)
 
 pub tree-closes-spec : {M : Type 1} → statement M
 tree-closes-spec =
@@ -93,7 +108,7 @@ tree-closes-spec =
     enum-told
     enum-known-root
     enum-told-2
-    closes-at-requires
+    halves-close-requires
     returns-3
     returns-4
     returns-5)

@@ -5,7 +5,7 @@ use native.Mathlib.Omega.{arith}
 use borrow.Author.Needs.{needs}
 use borrow.Author.Tests.{not-true, not-false}
 use Rattle.logic.specs.Bounded.{allBelow, all-none, all-stop, all-more, all-done}
-use Rattle.labels.specs.Labels.{valueOf}
+use Rattle.labels.specs.Labels.{mostEntries, valueOf}
 use Rattle.nodes.specs.NodeSteps.{bothAt}
 use Rattle.nodes.proofs.boths_ok.Statement.{statement}
 use Rattle.nodes.proofs.boths_ok.Tie as tie
@@ -15,7 +15,7 @@ use Rattle.nodes.proofs.both_at.Reads as both-at-reads
 use Rattle.nodes.proofs.entry_count.Reads as entry-count-reads
 
 abbrev Inv-loop : tie.InvT-loop
-Inv-loop cs x n e₀ e = (e ≤ n) × (n ≤ 32) × (allBelow e (bothAt cs (valueOf x)) ≡ true)
+Inv-loop cs x n e₀ e = (e ≤ n) × (n ≤ mostEntries) × (allBelow e (bothAt cs (valueOf x)) ≡ true)
 
 abbrev μ-loop : tie.MeasureT-loop
 μ-loop cs x n e₀ e = n - e

@@ -16,10 +16,10 @@ use Rattle.line_reader.proofs.places.pair_count.Reads as pair-count-rea
 use Rattle.roles.proofs.fits16.Reads as fits16-reads
 
 abbrev Inv-loop : tie.InvT-loop
-Inv-loop s d n pairs q₀ q = (q ≤ pairs) × (d ≤ 64) × (pairs ≤ 4096) × (allBelow q (λ q. narrow (maskAt s d q) n) ≡ true)
+Inv-loop s at d n pairs q₀ q = (q ≤ pairs) × (at ≤ 65536) × (pairs ≤ 4096) × (allBelow q (λ q. narrow (maskAt s at q) n) ≡ true)
 
 abbrev μ-loop : tie.MeasureT-loop
-μ-loop s d n pairs q₀ q = pairs - q
+μ-loop s at d n pairs q₀ q = pairs - q
 
 pair-count-requires : tie.Need-pair-count-requires Inv-loop μ-loop
 pair-count-requires c κs = search needs

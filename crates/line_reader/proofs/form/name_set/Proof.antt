@@ -3,6 +3,7 @@ use mathlib.Core.Path.{_≡_}
 use native.Mathlib.Omega.{arith}
 use borrow.Author.Needs.{needs}
 use Rattle.logic.specs.Sets.{setOf}
+use Rattle.labels.specs.Labels.{mostEntries}
 use Rattle.line_reader.specs.LineSteps.{nameEntry}
 use Rattle.words.specs.Words.{set-none, set-more, set-done, in-word}
 use Rattle.line_reader.proofs.form.name_set.Statement.{statement}
@@ -13,7 +14,7 @@ use Rattle.line_reader.proofs.form.is_name.Reads as is-name-reads
 use Rattle.words.proofs.put.Reads as put-reads
 
 abbrev Inv-loop : tie.InvT-loop
-Inv-loop cs n out₀ e₀ out e = (e ≤ n) × (n ≤ 32) × (out ≡ setOf e (nameEntry cs))
+Inv-loop cs n out₀ e₀ out e = (e ≤ n) × (n ≤ mostEntries) × (out ≡ setOf e (nameEntry cs))
 
 abbrev μ-loop : tie.MeasureT-loop
 μ-loop cs n out₀ e₀ out e = n - e

@@ -9,11 +9,8 @@ use Rattle.line_reader.proofs.places.names_of.Reads as names-of-reads
 names-of-requires : tie.Need-names-of-requires
 names-of-requires c κs = search needs
 
-cast-m : tie.Need-cast-m
-cast-m c = search needs
-
 returns : tie.Need-returns
 returns c = within-read _ _ _ (c .names-of .ensures)
 
 pub names-in-spec : {M : Type 1} → statement M
-names-in-spec = tie.close (tie.spec names-of-requires cast-m returns)
+names-in-spec = tie.close (tie.spec names-of-requires returns)

@@ -6,8 +6,7 @@ use borrow.Author.Needs.{needs}
 use borrow.Author.Tests.{not-true, not-false}
 use Rattle.logic.specs.Bounded.{allBelow, all-none, all-stop, all-more, all-done}
 use Rattle.logic.specs.Sets.{within}
-use Rattle.labels.specs.Labels.{num4}
-use Rattle.lines.specs.Lines.{nameAt}
+use Rattle.lines.specs.Lines.{mostElements, namesAt}
 use Rattle.line_reader.proofs.form.names_ok.Statement.{statement}
 use Rattle.line_reader.proofs.form.names_ok.Tie as tie
 use Rattle.line_reader.proofs.form.names_ok.Reads as reads
@@ -15,10 +14,10 @@ use Rattle.line_reader.proofs.form.names_ok.Lts as lts
 use Rattle.line_reader.proofs.form.names_in.Reads as names-in-reads
 
 abbrev Inv-loop : tie.InvT-loop
-Inv-loop s d set x₀ x = (x ≤ d) × (d ≤ 64) × (allBelow x (λ x. within (num4 s (nameAt x)) set) ≡ true)
+Inv-loop s d set broad x₀ x = (x ≤ d) × (d ≤ mostElements) × (allBelow x (λ x. within (namesAt broad s x) set) ≡ true)
 
 abbrev μ-loop : tie.MeasureT-loop
-μ-loop s d set x₀ x = d - x
+μ-loop s d set broad x₀ x = d - x
 
 loop-holds : tie.Need-loop-holds Inv-loop μ-loop
 loop-holds c = (omega arith, omega arith, all-none _)

@@ -27,7 +27,7 @@ add-result : tie.Need-add-result
 add-result c = let z = few-pairs 255 (c .before .byte .result) (c .before .byte .result) (omega arith) (omega arith) in omega arith
 
 returns : tie.Need-returns
-returns c = size-read (c .before .before .before .args .s .now) _ _ (c .before .byte .ensures) (c .name-at .ensures .0)
+returns c = size-read _ (c .before .before .before .args .s .now) _ _ (c .before .byte .ensures) (c .name-at .ensures .0)
 
 pub size-ok-spec : {M : Type 1} → statement M
 size-ok-spec =

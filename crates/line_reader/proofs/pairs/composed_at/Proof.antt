@@ -1,5 +1,5 @@
 use borrow.Author.Needs.{needs}
-use Rattle.line_reader.specs.LineSteps.{sized, composes-on, composes-off}
+use Rattle.line_reader.specs.LineSteps.{pairIn, composes-on, composes-off}
 use Rattle.line_reader.proofs.pairs.composed_at.Statement.{statement}
 use Rattle.line_reader.proofs.pairs.composed_at.Tie as tie
 use Rattle.line_reader.proofs.pairs.composed_at.Reads as reads
@@ -24,10 +24,10 @@ rows-closed-requires : tie.Need-rows-closed-requires
 rows-closed-requires c κs = search needs
 
 returns : tie.Need-returns
-returns c = composes-on (c .before .before .before .before .before .before .before .args .rs .now) (c .before .before .before .before .before .before .before .args .s .now) _ _ _ (c .before .rows-of .result) _ (c .before .before .before .byte .ensures) (c .before .before .if1 .taken) (c .before .rows-of .ensures) (c .rows-closed .ensures)
+returns c = composes-on (c .before .before .before .before .before .before .before .args .rs .now) (c .before .before .before .before .before .before .before .args .s .now) _ _ _ _ (c .before .rows-of .result) _ (c .before .before .before .byte .ensures) (c .before .before .if1 .taken) (c .before .rows-of .ensures) (c .rows-closed .ensures)
 
 returns-2 : tie.Need-returns-2
-returns-2 c = composes-off (c .before .before .before .before .before .args .rs .now) (sized (c .before .before .before .before .before .args .s .now) _) _ _ (c .before .byte .ensures) (c .if1 .left)
+returns-2 c = composes-off (c .before .before .before .before .before .args .rs .now) _ (pairIn (c .before .before .before .before .before .args .s .now) _ _) _ _ (c .before .byte .ensures) (c .if1 .left)
 
 pub composed-at-spec : {M : Type 1} → statement M
 composed-at-spec =

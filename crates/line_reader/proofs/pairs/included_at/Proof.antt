@@ -24,10 +24,10 @@ pairs-up-requires : tie.Need-pairs-up-requires
 pairs-up-requires c κs = search needs
 
 returns : tie.Need-returns
-returns c = no-parents (c .before .before .before .before .before .args .rs .now) (c .before .before .before .before .before .args .s .now) _ _ (sym (c .before .mask2 .ensures) ∙ c .if1 .taken)
+returns c = no-parents (c .before .before .before .before .before .args .rs .now) (c .before .before .before .before .before .args .s .now) _ _ _ (sym (c .before .mask2 .ensures) ∙ c .if1 .taken)
 
 returns-2 : tie.Need-returns-2
-returns-2 c = c .pairs-up .ensures ∙ ap (λ m. upBy (c .before .before .before .before .before .before .args .s .now) (c .before .before .before .before .before .before .args .d) (c .before .before .before .before .before .before .args .r .0) m) (c .before .before .mask2 .ensures)
+returns-2 c = c .pairs-up .ensures ∙ ap (λ m. upBy (c .before .before .before .before .before .before .args .s .now) (c .before .before .before .before .before .before .args .at) (c .before .before .before .before .before .before .args .d) (c .before .before .before .before .before .before .args .r .0) m) (c .before .before .mask2 .ensures)
 
 pub included-at-spec : {M : Type 1} → statement M
 included-at-spec =

@@ -13,10 +13,10 @@ use Rattle.line_reader.proofs.pairs.inclusions_ok.Lts as lts
 use Rattle.line_reader.proofs.pairs.included_at.Reads as included-at-reads
 
 abbrev Inv-loop : tie.InvT-loop
-Inv-loop rs s d n r₀ r = (r ≤ n) × (n ≤ 16) × (d ≤ 64) × (allBelow r (upAt rs s d) ≡ true)
+Inv-loop rs s at d n r₀ r = (r ≤ n) × (n ≤ 16) × (d ≤ 64) × (allBelow r (upAt rs s at d) ≡ true)
 
 abbrev μ-loop : tie.MeasureT-loop
-μ-loop rs s d n r₀ r = n - r
+μ-loop rs s at d n r₀ r = n - r
 
 loop-holds : tie.Need-loop-holds Inv-loop μ-loop
 loop-holds c = (omega arith, omega arith, omega arith, all-none _)

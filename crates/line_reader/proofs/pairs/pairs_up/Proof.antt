@@ -17,10 +17,10 @@ use Rattle.line_reader.proofs.places.mask_at.Reads as mask-at-reads
 use Rattle.line_reader.proofs.places.pair_count.Reads as pair-count-reads
 
 abbrev Inv-loop : tie.InvT-loop
-Inv-loop s d r parents pairs p₀ p = (p ≤ pairs) × (d ≤ 64) × (pairs ≤ 4096) × (allBelow p (λ p. has (maskAt s d p) (r .0) ⇒ within parents (maskAt s d p)) ≡ true)
+Inv-loop s at d r parents pairs p₀ p = (p ≤ pairs) × (d ≤ 64) × (pairs ≤ 4096) × (allBelow p (λ p. has (maskAt s at p) (r .0) ⇒ within parents (maskAt s at p)) ≡ true)
 
 abbrev μ-loop : tie.MeasureT-loop
-μ-loop s d r parents pairs p₀ p = pairs - p
+μ-loop s at d r parents pairs p₀ p = pairs - p
 
 pair-count-requires : tie.Need-pair-count-requires Inv-loop μ-loop
 pair-count-requires c κs = search needs

@@ -1,26 +1,25 @@
-use Prim.Native.Nat.{_-_, _≤_}
+use Prim.Native.Nat.{_+_, _-_, _*_, _≤_}
 use mathlib.Core.Path.{_≡_}
 use native.Mathlib.Omega.{arith}
 use borrow.Author.Needs.{needs}
-use Rattle.logic.specs.Sets.{has, setOf}
-use Rattle.parts.specs.Numbers.{num2}
-use Rattle.lines.specs.Lines.{pairAt}
-use Rattle.line_reader.specs.LineSteps.{row-bit}
+use Rattle.logic.specs.Sets.{setOf}
+use Rattle.lines.specs.Lines.{mostElements}
+use Rattle.line_reader.specs.LineSteps.{pairIn, row-bit}
 use Rattle.words.specs.Words.{set-none, set-more, set-done, in-word}
 use Rattle.line_reader.proofs.pairs.row_set.Statement.{statement}
 use Rattle.line_reader.proofs.pairs.row_set.Tie as tie
 use Rattle.line_reader.proofs.pairs.row_set.Reads as reads
 use Rattle.line_reader.proofs.pairs.row_set.Lts as lts
-use Rattle.words.proofs.put.Reads as put-reads
 use Rattle.line_reader.proofs.places.row_at.Reads as row-at-reads
 use Rattle.parts.proofs.mask2.Reads as mask2-reads
 use Rattle.roles.proofs.has16.Reads as has16-reads
+use Rattle.words.proofs.put.Reads as put-reads
 
 abbrev Inv-loop : tie.InvT-loop
-Inv-loop s d x r at out₀ y₀ out y = (y ≤ d) × (d ≤ 64) × (at ≤ 8449) × (at ≡ pairAt d x 0) × (out ≡ setOf y (λ y. has (num2 s (pairAt d x y)) (r .0)))
+Inv-loop s at d x r row out₀ y₀ out y = (y ≤ d) × (d ≤ mostElements) × (row ≤ 73728) × (row ≡ at + 2 * (x * d)) × (out ≡ setOf y (pairIn s at d (r .0) x))
 
 abbrev μ-loop : tie.MeasureT-loop
-μ-loop s d x r at out₀ y₀ out y = d - y
+μ-loop s at d x r row out₀ y₀ out y = d - y
 
 row-at-requires : tie.Need-row-at-requires Inv-loop μ-loop
 row-at-requires c κs = search needs
@@ -50,7 +49,7 @@ loop-less : tie.Need-loop-less Inv-loop μ-loop
 loop-less c = omega arith
 
 loop-again : tie.Need-loop-again Inv-loop μ-loop
-loop-again c = let v = c .before .before .before .before .loop .inv in (omega arith, v .1, v .2, v .3, set-more _ (c .before .before .before .before .loop .y) _ _ _ (v .4) (in-word (c .before .before .before .before .loop .y) _ _ (omega arith) (row-bit (c .before .before .before .before .before .before .before .args .s .now) _ _ _ _ _ _ (v .3) (c .before .before .mask2 .ensures) (c .before .has16 .ensures))) (c .put .ensures))
+loop-again c = let v = c .before .before .before .before .loop .inv in (omega arith, v .1, v .2, v .3, set-more _ (c .before .before .before .before .loop .y) _ _ _ (v .4) (in-word (c .before .before .before .before .loop .y) _ _ (omega arith) (row-bit (c .before .before .before .before .before .before .before .args .s .now) _ _ _ _ _ _ _ (v .3) (c .before .before .mask2 .ensures) (c .before .has16 .ensures))) (c .put .ensures))
 
 returns : tie.Need-returns Inv-loop μ-loop
 returns c = set-done _ (c .before .loop .y) _ _ (omega arith) (omega arith) (c .before .loop .inv .4)

@@ -11,10 +11,10 @@ use Rattle.line_reader.proofs.pairs.rows_of.Lts as lts
 use Rattle.line_reader.proofs.pairs.row_set.Reads as row-set-reads
 
 abbrev Inv-loop : tie.InvT-loop
-Inv-loop s d r out₀ x₀ out x = (x ≤ d) × (d ≤ 64) × Filled 64 (rowOf s d (r .0)) x out
+Inv-loop s at d r out₀ x₀ out x = (x ≤ d) × (d ≤ 64) × Filled 64 (rowOf s at d (r .0)) x out
 
 abbrev μ-loop : tie.MeasureT-loop
-μ-loop s d r out₀ x₀ out x = d - x
+μ-loop s at d r out₀ x₀ out x = d - x
 
 loop-holds : tie.Need-loop-holds Inv-loop μ-loop
 loop-holds c = (omega arith, omega arith, filled-none _ _ _ refl)

@@ -5,7 +5,7 @@ use native.Mathlib.Omega.{arith}
 use borrow.Author.Needs.{needs}
 use borrow.Author.Tests.{not-true, not-false}
 use Rattle.logic.specs.Bounded.{allBelow, all-none, all-stop, all-more, all-done}
-use Rattle.line_reader.specs.LineSteps.{sized, composesAt}
+use Rattle.line_reader.specs.LineSteps.{pairIn, composesAt}
 use Rattle.line_reader.proofs.pairs.transitivity_ok.Statement.{statement}
 use Rattle.line_reader.proofs.pairs.transitivity_ok.Tie as tie
 use Rattle.line_reader.proofs.pairs.transitivity_ok.Reads as reads
@@ -13,10 +13,10 @@ use Rattle.line_reader.proofs.pairs.transitivity_ok.Lts as lts
 use Rattle.line_reader.proofs.pairs.composed_at.Reads as composed-at-reads
 
 abbrev Inv-loop : tie.InvT-loop
-Inv-loop rs s d n t₀ t = (t ≤ n) × (n ≤ 16) × (d ≤ 64) × (allBelow t (composesAt rs (sized s d)) ≡ true)
+Inv-loop rs s at d n t₀ t = (t ≤ n) × (n ≤ 16) × (d ≤ 64) × (allBelow t (composesAt rs d (pairIn s at d)) ≡ true)
 
 abbrev μ-loop : tie.MeasureT-loop
-μ-loop rs s d n t₀ t = n - t
+μ-loop rs s at d n t₀ t = n - t
 
 loop-holds : tie.Need-loop-holds Inv-loop μ-loop
 loop-holds c = (omega arith, omega arith, omega arith, all-none _)

@@ -16,10 +16,10 @@ use Rattle.line_reader.proofs.truth.enough_reached.Reads as enough-reac
 use Rattle.words.proofs.put.Reads as put-reads
 
 abbrev Inv-loop : tie.InvT-loop
-Inv-loop s d r q n out₀ x₀ out x = (x ≤ d) × (d ≤ 64) × (out ≡ setOf x (λ x. leb n (countBelow d (has (bitAnd (rowOf s d (r .0) x) q)))))
+Inv-loop s at d r q n out₀ x₀ out x = (x ≤ d) × (d ≤ 64) × (out ≡ setOf x (λ x. leb n (countBelow d (has (bitAnd (rowOf s at d (r .0) x) q)))))
 
 abbrev μ-loop : tie.MeasureT-loop
-μ-loop s d r q n out₀ x₀ out x = d - x
+μ-loop s at d r q n out₀ x₀ out x = d - x
 
 loop-holds : tie.Need-loop-holds Inv-loop μ-loop
 loop-holds c = (omega arith, omega arith, set-none _)

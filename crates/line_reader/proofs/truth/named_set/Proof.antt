@@ -3,6 +3,7 @@ use mathlib.Core.Path.{_≡_}
 use native.Mathlib.Omega.{arith}
 use borrow.Author.Needs.{needs}
 use Rattle.logic.specs.Sets.{setOf}
+use Rattle.lines.specs.Lines.{mostElements}
 use Rattle.line_reader.specs.LineSteps.{sized}
 use Rattle.words.specs.Words.{set-none, set-more, set-done, in-word}
 use Rattle.line_reader.proofs.truth.named_set.Statement.{statement}
@@ -13,10 +14,10 @@ use Rattle.line_reader.proofs.truth.named.Reads as named-reads
 use Rattle.words.proofs.put.Reads as put-reads
 
 abbrev Inv-loop : tie.InvT-loop
-Inv-loop s d e out₀ x₀ out x = (x ≤ d) × (d ≤ 64) × (out ≡ setOf x (sized s d .name (e .0)))
+Inv-loop s d e broad out₀ x₀ out x = (x ≤ d) × (d ≤ mostElements) × (out ≡ setOf x (sized broad s d .name (e .0)))
 
 abbrev μ-loop : tie.MeasureT-loop
-μ-loop s d e out₀ x₀ out x = d - x
+μ-loop s d e broad out₀ x₀ out x = d - x
 
 loop-holds : tie.Need-loop-holds Inv-loop μ-loop
 loop-holds c = (omega arith, omega arith, set-none _)

@@ -18,7 +18,7 @@ literal-set-requires c κs = search needs
 
 returns : tie.Need-returns
 unfolding nonempty
-returns c = ap (ltb 0) (c .literal-set .ensures ∙ ap (literalSet (c .before .before .before .args .d) (c .before .before .before .args .t)) (c .before .byte .ensures))
+returns c = ap (ltb 0) (c .literal-set .ensures ∙ ap (literalSet (c .before .before .before .args .d) (c .before .before .before .args .t .now)) (c .before .byte .ensures))
 
 pub root-ok-spec : {M : Type 1} → statement M
 root-ok-spec = tie.close (tie.spec byte-requires literal-set-requires returns)

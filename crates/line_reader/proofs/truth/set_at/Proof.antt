@@ -1,7 +1,5 @@
-use mathlib.Core.Path.{_≡_, sym}
-use native.Mathlib.Omega.{arith}
-use lib.ListN.{length, List·getD-eq-default}
 use borrow.Author.Needs.{needs}
+use Rattle.line_reader.specs.TruthSteps.{set-here, set-past}
 use Rattle.line_reader.proofs.truth.set_at.Statement.{statement}
 use Rattle.line_reader.proofs.truth.set_at.Tie as tie
 use Rattle.line_reader.proofs.truth.set_at.Reads as reads
@@ -13,14 +11,14 @@ cast-result c = search needs
 mul-result : tie.Need-mul-result
 mul-result c = search needs
 
-array-read-result : tie.Need-array-read-result
-array-read-result c = search needs
+element-copy-out-result : tie.Need-element-copy-out-result
+element-copy-out-result c = search needs
 
 returns : tie.Need-returns
-returns c = search needs
+returns c = set-here (c .before .before .args .t .now) _ (c .before .if1 .taken)
 
 returns-2 : tie.Need-returns-2
-returns-2 c = let z : length (c .before .args .t1) ≡ 32 = search needs in sym (List·getD-eq-default (c .before .args .t1) 0 (omega arith))
+returns-2 c = set-past (c .before .args .t .now) _ (c .if1 .left)
 
 pub set-at-spec : {M : Type 1} → statement M
-set-at-spec = tie.close (tie.spec cast-result mul-result array-read-result returns returns-2)
+set-at-spec = tie.close (tie.spec cast-result mul-result element-copy-out-result returns returns-2)

@@ -3,6 +3,9 @@ use mathlib.Core.Path.{refl}
 use native.Mathlib.Omega.{arith}
 use borrow.Author.Needs.{needs}
 use Rattle.parts.specs.Filling.{filled-none}
+use Rattle.labels.specs.Labels.{mostEntries}
+use Rattle.lines.specs.Lines.{mostElements}
+use Rattle.line_reader.specs.LineSteps.{sized}
 use Rattle.line_reader.specs.TruthSteps.{TruthSets, truth-more, truth-done}
 use Rattle.line_reader.proofs.truth.truth_sets.Statement.{statement}
 use Rattle.line_reader.proofs.truth.truth_sets.Tie as tie
@@ -11,10 +14,10 @@ use Rattle.line_reader.proofs.truth.truth_sets.Lts as lts
 use Rattle.line_reader.proofs.truth.entry_set.Reads as entry-set-reads
 
 abbrev Inv-loop : tie.InvT-loop
-Inv-loop cs s d n out₀ e₀ out e = (e ≤ n) × (n ≤ 32) × (d ≤ 64) × TruthSets cs s d e out
+Inv-loop cs s d broad n out₀ e₀ out e = (e ≤ n) × (n ≤ mostEntries) × (d ≤ mostElements) × TruthSets cs (sized broad s d) e out
 
 abbrev μ-loop : tie.MeasureT-loop
-μ-loop cs s d n out₀ e₀ out e = n - e
+μ-loop cs s d broad n out₀ e₀ out e = n - e
 
 loop-holds : tie.Need-loop-holds Inv-loop μ-loop
 loop-holds c = (omega arith, omega arith, omega arith, λ rs qs A. filled-none _ _ _ refl)
@@ -41,10 +44,10 @@ loop-less : tie.Need-loop-less Inv-loop μ-loop
 loop-less c = omega arith
 
 loop-again : tie.Need-loop-again Inv-loop μ-loop
-loop-again c = let v = c .before .before .loop .inv in let a = c .before .before .before .before .before .args in (omega arith, v .1, v .2, truth-more (a .cs .now) (a .s .now) (a .d) (c .before .before .loop .e) _ _ (omega arith) (omega arith) (c .entry-set .ensures) (v .3))
+loop-again c = let v = c .before .before .before .loop .inv in let a = c .before .before .before .before .before .before .args in (omega arith, v .1, v .2, truth-more (a .cs .now) (sized (a .broad) (a .s .now) (a .d)) (c .before .before .before .loop .e) _ _ (omega arith) (omega arith) (c .entry-set .ensures) (v .3))
 
 returns : tie.Need-returns Inv-loop μ-loop
-returns c = let a = c .before .before .before .before .args in truth-done (a .cs .now) (a .s .now) (a .d) (c .before .loop .e) _ _ (omega arith) (omega arith) (c .before .loop .inv .3)
+returns c = let a = c .before .before .before .before .args in truth-done (a .cs .now) (sized (a .broad) (a .s .now) (a .d)) (c .before .loop .e) _ _ (omega arith) (omega arith) (c .before .loop .inv .3)
 
 pub truth-sets-spec : {M : Type 1} → statement M
 truth-sets-spec =

@@ -1,0 +1,28 @@
+use borrow.Author.Needs.{needs}
+use Rattle.list_cells.proofs.above_by.Statement.{statement}
+use Rattle.list_cells.proofs.above_by.Tie as tie
+use Rattle.list_cells.proofs.above_by.Reads as reads
+use Rattle.list_cells.proofs.above_by.Lts as lts
+use Rattle.list_cells.proofs.mask.Reads as mask-reads
+
+cast-mask : tie.Need-cast-mask
+cast-mask c = search needs
+
+mul-mask : tie.Need-mul-mask
+mul-mask c = search needs
+
+array-read-mask : tie.Need-array-read-mask
+array-read-mask c = search needs
+
+mask-requires : tie.Need-mask-requires
+mask-requires c κs = search needs
+
+returns : tie.Need-returns
+returns c = (rw (c .before .before .if1 .taken) (c .mask .ensures .0), c .mask .ensures .1)
+
+returns-2 : tie.Need-returns-2
+returns-2 c = search needs
+
+pub above-by-spec : {M : Type 1} → statement M
+above-by-spec =
+    tie.close (tie.spec cast-mask mul-mask array-read-mask mask-requires returns returns-2)
