@@ -1,9 +1,10 @@
 // The head of evidence, and the form of its records.
 ghost use mathlib.Core.Path.{_≡_};
 ghost use mathlib.Core.Option.{none};
-ghost use Prim.Native.Nat.{_/_};
+ghost use Prim.Native.Nat.{_+_, _*_, _/_, _<_};
 ghost use lib.ListN.{length};
 ghost use Rattle.logic.specs.Refusals.{unless};
+ghost use Rattle.parts.specs.Numbers.{num2};
 ghost use Rattle.labels.specs.Labels.{valueOf};
 ghost use Rattle.evidence.specs.Evidence.{headTest, headOf, headRefusal, layoutFor, nodeFormTest, labelOf, edgesPart};
 use labels::Label;
@@ -76,11 +77,22 @@ pub fn node_form_ok(n: usize, f: Layout) -> bool
     }
 }
 
+// Where record `i` begins, with one comparison if its offset is all there: each edge asks it of its target.
+fn record_start(s: &[u8], i: u8) -> usize
+    ensures { λ r. ⌜ (r ≡ num2 (now (s .entry)) (2 + 4 * i)) × (r < 65536) ⌝ }
+{
+    let at = (2 + 4 * (i as u32)) as usize;
+    if s.len() < at + 2 {
+        return (byte(s, at) as usize) * 256;
+    }
+    read2(s, at)
+}
+
 // The label of record `i`, read in place.
 pub fn record_label(s: &[u8], i: u8, f: Layout) -> Label
     ensures { λ r. ⌜ valueOf r ≡ labelOf f (now (s .entry)) i ⌝ }
 {
-    load(s, read2(s, 2 + 4 * (i as usize)), f.wide)
+    load(s, record_start(s, i), f.wide)
 }
 
 // The bytes behind the label of record `i`; none if it has no label or does not lie in the evidence.

@@ -21,7 +21,6 @@ use Rattle.tables.specs.Concepts.{fieldsStruct}
 use Rattle.tables.specs.declared.Fields as Code
 use Rattle.interpretation.specs.Meaning.{Interpretation}
 use Rattle.lines.specs.Lines.{wideNames, nameSize, nameAt, lineLength, elements, namesAt, lineTest, mostElements, nameSet}
-use Rattle.lines.specs.Numerals.{Bytes, names, bit-byte, bit-past}
 use Rattle.words.specs.Words.{within-setOf}
 
 -- role mask q of those from `at` on, and whether role r joins x to y, of d elements
@@ -71,9 +70,8 @@ pub few-pairs : (m d x : ℕ) → d ≤ m → x ≤ m → x * d ≤ m * m
 few-pairs m d x h k = mul-le-mul k h
 
 -- the pair (x, y) as row x holds it
-pub row-bit : (s : List ℕ) (at d x y r row m : ℕ) {b : Bool} → row ≡ at + 2 * (x * d) → m ≡ num2 s (row + 2 * y) → b ≡ has m r
-    → b ≡ pairIn s at d r x y
-row-bit s at d x y r row m e f g = g ∙ ap (λ n. has n r) (f ∙ ap (num2 s) (let z : row + 2 * y ≡ at + 2 * (x * d + y) = omega arith in z))
+pub row-bit : (s : List ℕ) (at d x y r row : ℕ) {b : Bool} → row ≡ at + 2 * (x * d) → b ≡ has (num2 s (row + 2 * y)) r → b ≡ pairIn s at d r x y
+row-bit s at d x y r row e f = f ∙ ap (λ n. has (num2 s n) r) (let z : row + 2 * y ≡ at + 2 * (x * d + y) = omega arith in z)
 
 -- ---- laws for 23
 -- a name is told by its kind
@@ -134,15 +132,6 @@ module _ (rs cs s : List ℕ) (broad : Bool) (w : broad ≡ wide (length cs / 6)
       → masks ≡ allBelow (d * d) (λ q. narrow (maskAt s at q) (length rs / 3))
       → (qs : List ℕ) → (names && masks) ≡ lineTest (describe rs cs qs) s
   line-goes-on d at set names masks e f l g p q qs = sym (line-is (describe rs cs qs) s ∙ rw (sym w, e, p, q, g, l, f) refl)
-
--- ---- one name: bit e of a mask of k bytes is bit e % 8 of one of them
-module _ (broad : Bool) (s : List ℕ) (x e k : ℕ) (small : Bytes s) (w : k ≡ nameBytes broad) where
-  pub name-past : k ≤ e / 8 → false ≡ has (namesAt broad s x) e
-  name-past h = sym (bit-past (names broad) s (nameAt (nameBytes broad) x) e small (omega arith))
-
-  pub name-here : (at m : ℕ) → e / 8 < k → at ≡ nameAt (nameBytes broad) x → m ≡ byteAt s (at + (k - 1 - e / 8))
-      → has m (e % 8) ≡ has (namesAt broad s x) e
-  name-here at m h p q = rw (q, p, w) (bit-byte (names broad) s (nameAt (nameBytes broad) x) e small (omega arith))
 
 -- ---- laws for inclusions
 pub no-parents : (rs s : List ℕ) (at d r : ℕ) → num2 rs (3 * r + 1) ≡ 0 → true ≡ upAt rs s at d r

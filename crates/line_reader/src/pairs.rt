@@ -7,6 +7,7 @@ ghost use Rattle.logic.specs.Bounded.{allBelow};
 ghost use Rattle.logic.specs.Sets.{has, within};
 ghost use Rattle.lines.specs.Lines.{mostElements};
 ghost use Rattle.line_reader.specs.LineSteps.{pairIn, rowOf, upBy, upAt, closedAt, composesAt};
+use super::places::bit_at;
 use super::places::mask_at;
 use super::places::pair_count;
 use super::places::row_at;
@@ -16,19 +17,19 @@ use parts::byte;
 use parts::mask2;
 use roles::has16;
 use tables::RoleNo;
-use words::put;
+use words::push;
 
-// The elements that `x` reaches by the role `r`.
+// The elements that `x` reaches by the role `r`, from the last down.
 pub(crate) fn row_set(s: &[u8], at: usize, d: usize, x: usize, r: RoleNo) -> u64
     requires { ⌜ (at ≤ 65536) × (d ≤ mostElements) × (x ≤ mostElements) ⌝ }
     ensures { λ q. ⌜ q ≡ rowOf (now (s .entry)) at d (r .0) x ⌝ }
 {
-    let row = row_at(at, d, x);
+    let row = row_at(at, d, x) as u32;
     let mut out: u64 = 0;
-    let mut y: usize = 0;
-    while y < d {
-        out = put(out, y, has16(mask2(s, row + 2 * y), r.0));
-        y += 1;
+    let mut y = d as u32;
+    while 0 < y {
+        y -= 1;
+        out = push(out, bit_at(s, (row + 2 * y) as usize, 2, r.0));
     }
     out
 }

@@ -1,7 +1,7 @@
 // Sets of elements, in one word.
 ghost use mathlib.Core.Path.{_≡_};
 ghost use Prim.Native.Nat.{_<_, _≤_};
-ghost use Rattle.logic.specs.Sums.{only, countBelow};
+ghost use Rattle.logic.specs.Sums.{countBelow};
 ghost use Rattle.logic.specs.Sets.{has};
 ghost use Rattle.lines.specs.Lines.{mostElements};
 ghost use Rattle.words.specs.Words.{allOf};
@@ -13,14 +13,6 @@ pub(crate) fn has64(x: u64, i: usize) -> bool
     ensures { λ r. ⌜ r ≡ has x i ⌝ }
 {
     (x >> i) % 2 == 1
-}
-
-// 1 if the set holds `i`, else 0.
-fn bit64(x: u64, i: usize) -> usize
-    requires { ⌜ i < mostElements ⌝ }
-    ensures { λ r. ⌜ (r ≡ only (has x i) 1) × (r ≤ 1) ⌝ }
-{
-    ((x >> i) % 2) as usize
 }
 
 // The set of the first `d` numbers.
@@ -40,11 +32,5 @@ pub(crate) fn set_size(x: u64, d: usize) -> usize
     requires { ⌜ d ≤ mostElements ⌝ }
     ensures { λ r. ⌜ r ≡ countBelow d (has x) ⌝ }
 {
-    let mut n: usize = 0;
-    let mut i: usize = 0;
-    while i < d {
-        n += bit64(x, i);
-        i += 1;
-    }
-    n
+    u64::count_ones(full_set(d) & x) as usize
 }

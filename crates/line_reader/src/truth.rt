@@ -15,6 +15,7 @@ ghost use Rattle.words.specs.Words.{allOf};
 ghost use Rattle.line_reader.specs.LineSteps.{sized, rowOf};
 ghost use Rattle.line_reader.specs.TruthSteps.{setIn, literalOf, literalSet, conceptSet, TruthSets};
 use super::pairs::row_set;
+use super::places::bit_at;
 use super::places::name_at;
 use super::sets::full_set;
 use super::sets::set_size;
@@ -31,19 +32,12 @@ use words::put;
 // A table of sets has one for each entry.
 const SETS: usize = MOST_ENTRIES as usize;
 
-// Whether element `x` has the name entry `e`: by the one byte of its mask that tells.
+// Whether element `x` has the name entry `e`.
 fn named(s: &[u8], x: usize, e: EntryNo, broad: bool) -> bool
     requires { ⌜ x < mostElements ⌝ }
     ensures { λ r. ⌜ r ≡ has (namesAt broad (now (s .entry)) x) (e .0) ⌝ }
 {
-    let no = e.0;
-    let before = (no / 8) as usize;
-    let k = name_bytes(broad);
-    if k <= before {
-        return false;
-    }
-    let m = byte(s, name_at(x, broad) + (k - 1 - before));
-    (m >> (no % 8)) % 2 == 1
+    bit_at(s, name_at(x, broad), name_bytes(broad), e.0)
 }
 
 // The elements that have the name entry `e`.

@@ -22,6 +22,10 @@ num2 s at = byteAt s at * 256 + byteAt s (at + 1)
 pub past : (s : List ℕ) (at : ℕ) → length s ≤ at → 0 ≡ num2 s at
 past s at h = rw (List·getD-eq-default s 0 h, List·getD-eq-default s 0 (let z : length s ≤ at + 1 = omega arith in z)) refl
 
+-- with the low byte past the end it is the high byte's worth
+pub past-low : (s : List ℕ) (at : ℕ) → length s < at + 2 → byteAt s at * 256 ≡ num2 s at
+past-low s at h = rw (List·getD-eq-default s 0 (let z : length s ≤ at + 1 = omega arith in z)) (omega arith)
+
 -- a number, or the most that it may be
 abbrev pub upTo : ℕ → ℕ → ℕ
 upTo most n = cond (ltb n most) n most

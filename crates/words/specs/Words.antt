@@ -1,6 +1,6 @@
 -- Sets built in a loop and compared as whole words: each operation is the test of all or of some numbers below the bound.
 use Prim.Native.Nat.{ℕ, zero, suc, _+_, _-_, _*_, _/_, _%_, _^_, _≤_, _<_}
-use mathlib.Core.Path.{_≡_, refl, sym, _∙_, ap}
+use mathlib.Core.Path.{_≡_, refl, sym, _∙_, ap, ap₂}
 use mathlib.Core.Logic.{_⊎_, inl, inr}
 use mathlib.Core.Bool.{Bool, true, false, cond, not, _&&_}
 use native.Mathlib.Omega.{arith}
@@ -9,13 +9,14 @@ use native.Mathlib.Nat.{mod-eq-of-lt, one-mul}
 use native.Mathlib.Numerals.{add-one}
 use borrow.Author.Tests.{lt-ltb}
 use lib.Bits.{bitAnd, bitOr}
+use lib.Count.{ones, ones-step}
 use lib.Dec.{eqb, ltb}
-use lib.Pow.{pow-lt, pow-pos}
+use lib.Pow.{pow-lt, pow-pos, shl-exact}
 use Rattle.logic.specs.Tests.{So, _⇒_, so-and, and-l, and-r, imp-in, imp-out, same-test, so-eqb, so-ltb, eqb↔}
 use Rattle.logic.specs.Bounded.{allBelow, anyBelow, all-intro, all-elim, any-intro, any-elim, below-cases}
-use Rattle.logic.specs.Sums.{only, countBelow, sumBelow}
+use Rattle.logic.specs.Sums.{only, only-le, countBelow, sumBelow, sum-front}
 use Rattle.logic.specs.Sets.{has, nonempty, within, with, setOf}
-use Rattle.logic.specs.SetLaws.{has-setOf, setOf↔, setOf-cong, set-ext, and-members, within↔, with↔, nonempty↔}
+use Rattle.logic.specs.SetLaws.{has-setOf, setOf-lt, setOf↔, setOf-cong, set-ext, and-members, within↔, with↔, nonempty↔}
 
 -- the set of all numbers below k
 abbrev pub allOf : ℕ → ℕ
@@ -59,6 +60,37 @@ put-on x i b e = let h : i < 64 = so-ltb i 64 (and-l (ltb i 64) b e) in
 
 pub put-off : (x i : ℕ) (b : Bool) → (ltb i 64 && b) ≡ false → x ≡ putIn x i (ltb i 64 && b)
 put-off x i b e = rw e refl
+
+-- ---- each number one higher
+-- the set x with each number one higher, and with 0 if the test passes, in a word of 64 digits
+abbrev pub pushed : ℕ → Bool → ℕ
+pushed x b = x * 2 % 2 ^ 64 + only b 1
+
+pub push-on : (x : ℕ) (b : Bool) → b ≡ true → x * 2 ^ 1 % 2 ^ 64 + 1 ≡ pushed x b
+push-on x b e = rw e refl
+
+pub push-off : (x : ℕ) (b : Bool) → b ≡ false → x * 2 ^ 1 % 2 ^ 64 ≡ pushed x b
+push-off x b e = rw e (omega arith)
+
+-- a set made from its greatest number down: after the numbers below k and not below y comes y - 1
+pub push-none : (p : ℕ → Bool) (k : ℕ) → 0 ≡ setOf (k - k) (λ j. p (k + j))
+push-none p k = let z : k - k ≡ 0 = omega arith in rw z (set-none (λ j. p (k + j)))
+
+pub push-more : (p : ℕ → Bool) (k y x q : ℕ) (b : Bool) → k ≤ 64 → 0 < y → y ≤ k → x ≡ setOf (k - y) (λ j. p (y + j)) → b ≡ p (y - 1) → q ≡ pushed x b
+    → q ≡ setOf (k - (y - 1)) (λ j. p (y - 1 + j))
+unfolding setOf
+push-more p k y x q b h o l e f r =
+    let m = k - y in
+    let z : k - (y - 1) ≡ suc m = omega arith in
+    let n : x * 2 % 2 ^ 64 ≡ x * 2 = shl-exact m 1 64 (rw e (setOf-lt m (λ j. p (y + j)))) (omega arith) in
+    let a : only b 1 ≡ only (p (y - 1 + 0)) 1 = ap (λ c. only c 1) (f ∙ ap p (let u : y - 1 ≡ y - 1 + 0 = omega arith in u)) in
+    let s : setOf m (λ j. p (y + j)) ≡ setOf m (λ j. p (y - 1 + suc j)) =
+    setOf-cong m _ _ (λ j _. ap p (let u : y + j ≡ y - 1 + suc j = omega arith in u)) in
+    rw z (omega (arith, r, n, a, s, e))
+
+pub push-done : (p : ℕ → Bool) (k y x : ℕ) → y ≤ 0 → x ≡ setOf (k - y) (λ j. p (y + j)) → x ≡ setOf k p
+push-done p k y x h e = let z : k - y ≡ k = omega arith in
+    (rw z at e) ∙ setOf-cong k _ _ (λ j _. ap p (let u : y + j ≡ j = omega arith in u))
 
 -- ---- whole words
 pub all-setOf : (k : ℕ) → allOf k ≡ setOf k (λ i. true)
@@ -107,26 +139,24 @@ some-setOf k p = same-test _ _
     (λ h. let w = any-elim k p h in nonempty↔ (setOf k p) .1 (w .0, setOf↔ k p (w .0) .1 (w .1, w .2)))
 
 -- ---- counting members
-pub count-none : (p : ℕ → Bool) → 0 ≡ countBelow 0 p
-unfolding sumBelow
-count-none p = refl
+pub count-ones : (k : ℕ) (p : ℕ → Bool) → ones (setOf k p) ≡ countBelow k p
+unfolding setOf sumBelow ones
+count-ones zero p = refl
+count-ones (suc k) p = ones-step (setOf (suc k) p)
+    ∙ ap₂ _+_ low (ap ones high ∙ count-ones k (λ i. p (suc i)))
+    ∙ sym (sum-front k (λ i. only (p i) 1))
+  where
+    low : setOf (suc k) p % 2 ≡ only (p 0) 1
+    low = omega (arith, only-le (p 0) 1)
 
-pub count-more : (p : ℕ → Bool) (i n one : ℕ) → n ≡ countBelow i p → one ≡ only (p i) 1 → n + one ≡ countBelow (i + 1) p
-unfolding sumBelow
-count-more p i n one e q = rw (add-one i, e, q) refl
+    high : setOf (suc k) p / 2 ≡ setOf k (λ i. p (suc i))
+    high = omega (arith, only-le (p 0) 1)
 
-pub count-done : (p : ℕ → Bool) (i n k : ℕ) → i ≤ k → k ≤ i → n ≡ countBelow i p → n ≡ countBelow k p
-count-done p i n k h g e = let z : i ≡ k = omega arith in rw z at e
+-- the members below k
+pub size-word : (k x n y : ℕ) → n ≡ allOf k → y ≡ ones (bitAnd n x) → y ≡ countBelow k (has x)
+size-word k x n y e f = f ∙ ap (λ m. ones (bitAnd m x)) e ∙ ap ones (and-all k x) ∙ count-ones k (has x)
 
 -- ---- as code has them, in a word of 64 digits
--- a digit
-pub bit-only : (x i : ℕ) → x / 2 ^ i % 2 ≡ only (has x i) 1
-unfolding has
-bit-only x i = elim (decLe 1 (x / 2 ^ i % 2)) [
-  | yes h ↦ (let z : x / 2 ^ i % 2 ≡ 1 = omega arith in rw z refl)
-  | no h ↦ (let z : x / 2 ^ i % 2 ≡ 0 = omega arith in rw z refl)
-]
-
 -- the set of all
 pub all-word : (k : ℕ) → k < 64 → 1 * 2 ^ k % 2 ^ 64 - 1 ≡ allOf k
 all-word k h = rw (one-mul, mod-eq-of-lt (pow-lt {j = 64} h)) refl

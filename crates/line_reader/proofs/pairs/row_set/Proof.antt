@@ -5,54 +5,85 @@ use borrow.Author.Needs.{needs}
 use Rattle.logic.specs.Sets.{setOf}
 use Rattle.lines.specs.Lines.{mostElements}
 use Rattle.line_reader.specs.LineSteps.{pairIn, row-bit}
-use Rattle.words.specs.Words.{set-none, set-more, set-done, in-word}
+use Rattle.lines.specs.Numerals.{two}
+use Rattle.parts.specs.Numbers.{num2}
+use Rattle.words.specs.Words.{push-none, push-more, push-done}
 use Rattle.line_reader.proofs.pairs.row_set.Statement.{statement}
 use Rattle.line_reader.proofs.pairs.row_set.Tie as tie
 use Rattle.line_reader.proofs.pairs.row_set.Reads as reads
 use Rattle.line_reader.proofs.pairs.row_set.Lts as lts
 use Rattle.line_reader.proofs.places.row_at.Reads as row-at-reads
-use Rattle.parts.proofs.mask2.Reads as mask2-reads
-use Rattle.roles.proofs.has16.Reads as has16-reads
-use Rattle.words.proofs.put.Reads as put-reads
+use Rattle.line_reader.proofs.places.bit_at.Reads as bit-at-reads
+use Rattle.words.proofs.push.Reads as push-reads
 
 abbrev Inv-loop : tie.InvT-loop
-Inv-loop s at d x r row out₀ y₀ out y = (y ≤ d) × (d ≤ mostElements) × (row ≤ 73728) × (row ≡ at + 2 * (x * d)) × (out ≡ setOf y (pairIn s at d (r .0) x))
+Inv-loop s at d x r row out₀ y₀ out y = (y ≤ d) × (d ≤ mostElements) × (row ≤ 73728) × (row ≡ at + 2 * (x * d)) × (out ≡ setOf (d - y) (λ j. pairIn s at d (r .0) x (y + j)))
 
 abbrev μ-loop : tie.MeasureT-loop
-μ-loop s at d x r row out₀ y₀ out y = d - y
+μ-loop s at d x r row out₀ y₀ out y = y
 
 row-at-requires : tie.Need-row-at-requires Inv-loop μ-loop
 row-at-requires c κs = search needs
 
+cast-row : tie.Need-cast-row Inv-loop μ-loop
+cast-row c = search needs
+
+cast-y : tie.Need-cast-y Inv-loop μ-loop
+cast-y c = search needs
+
 loop-holds : tie.Need-loop-holds Inv-loop μ-loop
-loop-holds c = (omega arith, omega arith, c .row-at .ensures .1, c .row-at .ensures .0, set-none _)
+loop-holds c = let a = c .before .before .args in (
+  omega arith,
+  omega arith,
+  c .row-at .ensures .1,
+  c .row-at .ensures .0,
+  push-none (pairIn (a .s .now) (a .at) (a .d) (a .r .0) (a .x)) _,
+)
 
-mul-mask2 : tie.Need-mul-mask2 Inv-loop μ-loop
-mul-mask2 c = omega arith
+sub-y : tie.Need-sub-y Inv-loop μ-loop
+sub-y c = omega arith
 
-add-mask2 : tie.Need-add-mask2 Inv-loop μ-loop
-add-mask2 c = omega arith
+mul-bit-at : tie.Need-mul-bit-at Inv-loop μ-loop
+mul-bit-at c = omega arith
 
-mask2-requires : tie.Need-mask2-requires Inv-loop μ-loop
-mask2-requires c κs = search needs
+add-bit-at : tie.Need-add-bit-at Inv-loop μ-loop
+add-bit-at c = omega arith
 
-has16-requires : tie.Need-has16-requires Inv-loop μ-loop
-has16-requires c κs = search needs
+cast-bit-at : tie.Need-cast-bit-at Inv-loop μ-loop
+cast-bit-at c = search needs
 
-put-requires : tie.Need-put-requires Inv-loop μ-loop
-put-requires c κs = search needs
+bit-at-requires : tie.Need-bit-at-requires Inv-loop μ-loop
+bit-at-requires c κs = search needs
 
-add-y : tie.Need-add-y Inv-loop μ-loop
-add-y c = omega arith
+push-requires : tie.Need-push-requires Inv-loop μ-loop
+push-requires c κs = search needs
 
 loop-less : tie.Need-loop-less Inv-loop μ-loop
 loop-less c = omega arith
 
 loop-again : tie.Need-loop-again Inv-loop μ-loop
-loop-again c = let v = c .before .before .before .before .loop .inv in (omega arith, v .1, v .2, v .3, set-more _ (c .before .before .before .before .loop .y) _ _ _ (v .4) (in-word (c .before .before .before .before .loop .y) _ _ (omega arith) (row-bit (c .before .before .before .before .before .before .before .args .s .now) _ _ _ _ _ _ _ (v .3) (c .before .before .mask2 .ensures) (c .before .has16 .ensures))) (c .put .ensures))
+loop-again c = let a = c .before .before .before .before .before .before .args in let v = c .before .before .before .loop .inv in (
+  omega arith,
+  v .1,
+  v .2,
+  v .3,
+  push-more
+      (pairIn (a .s .now) (a .at) (a .d) (a .r .0) (a .x))
+      (a .d)
+      (c .before .before .before .loop .y)
+      _
+      _
+      _
+      (omega arith)
+      (omega arith)
+      (omega arith)
+      (v .4)
+      (row-bit (a .s .now) _ _ _ _ _ _ (v .3) (c .before .bit-at .ensures num2 two))
+      (c .push .ensures),
+)
 
 returns : tie.Need-returns Inv-loop μ-loop
-returns c = set-done _ (c .before .loop .y) _ _ (omega arith) (omega arith) (c .before .loop .inv .4)
+returns c = let a = c .before .before .before .before .args in push-done (pairIn (a .s .now) (a .at) (a .d) (a .r .0) (a .x)) _ (c .before .loop .y) _ (omega arith) (c .before .loop .inv .4)
 
 pub row-set-spec : {M : Type 1} → statement M
 row-set-spec =
@@ -61,13 +92,15 @@ row-set-spec =
     Inv-loop
     μ-loop
     row-at-requires
+    cast-row
+    cast-y
     loop-holds
-    mul-mask2
-    add-mask2
-    mask2-requires
-    has16-requires
-    put-requires
-    add-y
+    sub-y
+    mul-bit-at
+    add-bit-at
+    cast-bit-at
+    bit-at-requires
+    push-requires
     loop-less
     loop-again
     returns)
