@@ -1,8 +1,8 @@
 -- Lifted evidence within the limits as bytes, that the bytes are that evidence, and that no other bytes are (01, "Evidence"; FORMAT 4, 5, 9).
 use Prim.Native.Nat.{ℕ, _+_, _*_, _^_, _≤_, _<_}
-use mathlib.Core.Path.{_≡_, refl, sym, _∙_, ap, ap₂, subst}
-use mathlib.Core.Bool.{true, false}
-use mathlib.Core.List.{List, [], _++_, map, flatten}
+use mathlib.Core.Path.{_≡_, sym, _∙_, ap, ap₂, subst}
+use mathlib.Core.Bool.{true}
+use mathlib.Core.List.{List, [], _++_, map}
 use mathlib.Core.Option.{none, some}
 use native.Mathlib.Omega.{arith}
 use lib.ListN.{length, getD, drop, length-append, length-map}
@@ -19,9 +19,9 @@ use Rattle.list_form.specs.ListForm.{stepIn}
 use Rattle.list_form.specs.FormLaws.{form-fine}
 use Rattle.lists.specs.Lists.{stepFrom, recordIn, refutationIn, RecordForm}
 use Rattle.encoding.specs.Places.{before-between, each-map, each-value, Small, small-append, small-at, small-drop}
-use Rattle.encoding.specs.Numbers.{eight, label, label-bytes, label-back, label-behind, label-again}
+use Rattle.encoding.specs.Numbers.{label, label-bytes, label-back, label-behind, label-again}
 use Rattle.encoding.specs.Bundles.{bundle, Fits, bundle-kind, bundle-head, bundle-small, each-record, records-back, recordsIn, part-small, records-again, bundle-again, bundle-fits}
-use Rattle.encoding.specs.Nodes.{encodeEdge, encodeNode, NodeWidth, node-back, node-length, node-form, node-small, node-again, node-width}
+use Rattle.encoding.specs.Nodes.{encodeNode, NodeWidth, node-back, node-length, node-form, node-small, node-again, node-width}
 use Rattle.encoding.specs.Steps.{encodeStep, StepWidth, step-back, step-small, StepAgain, step-again}
 
 -- ---- graphs: kind 1

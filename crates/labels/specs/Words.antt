@@ -1,15 +1,15 @@
 -- A label by its words, for the code: one word of 32 literals, the opposites in a word, and the entries of a label in one word.
 use Prim.Native.Nat.{ℕ, zero, suc, _+_, _-_, _*_, _/_, _%_, _^_, _<_, _≤_}
 use mathlib.Core.Path.{_≡_, refl, sym, _∙_, ap, ap₂, subst}
-use mathlib.Core.Logic.{_↔_, _⊎_, inl, inr, Iff·rfl}
-use mathlib.Core.Bool.{Bool, true, false, not, cond, _&&_}
+use mathlib.Core.Logic.{_↔_, inl, inr, Iff·rfl}
+use mathlib.Core.Bool.{Bool, not, cond, _&&_}
 use native.Mathlib.Omega.{arith}
-use native.Mathlib.Decide.{decLt, decLe}
+use native.Mathlib.Decide.{decLt}
 use native.Mathlib.Nat.{div-one, div-eq-of-lt}
 use lib.Bits.{bitAnd, bitOr, and-le-r}
 use lib.Dec.{eqb}
 use lib.Pow.{pow-mono, shr-shr, high as high-word}
-use Rattle.logic.specs.Tests.{So, _⇒_, so-and, and-l, and-r, so-not, not-so, so-eqb, so-false, same-test, eqb↔, imp↔, not↔}
+use Rattle.logic.specs.Tests.{So, _⇒_, so-and, and-l, and-r, so-not, not-so, so-eqb, same-test, eqb↔, imp↔, not↔}
 use Rattle.logic.specs.Bounded.{allBelow, anyBelow, all-intro, all-elim, any-intro, any-elim}
 use Rattle.logic.specs.Sets.{has}
 use Rattle.logic.specs.SetLaws.{has-suc, has-lt, no-member, some-member, and-members, or-members}

@@ -6,7 +6,7 @@ use mathlib.Core.List.{List, [], _∷_}
 use mathlib.Core.Option.{Option, none, some}
 use native.Mathlib.Omega.{arith}
 use lib.ListN.{length}
-use Rattle.logic.specs.Tests.{_⇒_, leb-so, same-test, reading}
+use Rattle.logic.specs.Tests.{_⇒_, leb-so, same-test}
 use Rattle.logic.specs.Bounded.{allBelow, all-cong, below}
 use Rattle.logic.specs.Refusals.{Refusal, unless, refuse}
 use Rattle.logic.specs.Sets.{has, within}

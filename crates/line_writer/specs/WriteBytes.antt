@@ -31,10 +31,10 @@ use Rattle.graph.specs.Line.{copies, joins, direct, line}
 use Rattle.graph.specs.Copies.{copies-pos}
 use Rattle.lines.specs.Lines.{wideNames, nameSize, nameAt, lineLength, nameMask, roleMask, byteOf, lineByte, pairByte, lineBytes}
 use Rattle.lines.specs.LineLaws.{pair-below, pair-row, pair-column, name-next, byte-size, byte-names, byte-pairs, written}
-use Rattle.lines.specs.Numerals.{Numeral, Bytes, names}
+use Rattle.lines.specs.Numerals.{Bytes, names}
 use Rattle.lines.specs.Laying.{Laid, Masks, Names, names-local, laid-one}
 use Rattle.line_writer.specs.WriteSteps.{namesOf, elementNames, transitivesIn, directMasks}
-use Rattle.line_writer.specs.WriteJoin.{closed, closed-is}
+use Rattle.line_writer.specs.WriteJoin.{closed-is}
 
 -- where the role masks of d elements begin
 abbrev pub rowsAt : Layout → ℕ → ℕ

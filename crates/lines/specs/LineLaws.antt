@@ -20,7 +20,7 @@ use Rattle.description.specs.Descriptions.{Description, name, isName}
 use Rattle.interpretation.specs.Meaning.{Interpretation}
 use Rattle.lines.specs.Lines.{wideNames, nameSize, nameAt, pairAt, lineLength, elements, namesAt, lineIn, LineOk, mostElements}
 use Rattle.lines.specs.Lines.{nameMask, roleMask, byteOf, pairByte, lineByte, lineBytes}
-use Rattle.lines.specs.Numerals.{Numeral, two, names}
+use Rattle.lines.specs.Numerals.{two, names}
 use Rattle.lines.specs.Alike.{Alike}
 
 -- ---- places

@@ -1,19 +1,17 @@
 -- Rules 11 and 12 of a graph's record as the code tests them, on literals by number.
-use Prim.Native.Nat.{ℕ, zero, suc, _+_, _-_, _*_, _/_, _%_, _^_, _≤_, _<_}
+use Prim.Native.Nat.{ℕ, zero, suc, _+_, _-_, _*_, _/_, _%_, _≤_, _<_}
 use mathlib.Core.Path.{_≡_, refl, sym, _∙_, ap, ap₂, subst}
-use mathlib.Core.Logic.{_↔_, inl, inr, Iff·rfl}
+use mathlib.Core.Logic.{inl, inr}
 use mathlib.Core.Bool.{Bool, true, false, not, _&&_, _||_}
 use mathlib.Core.List.{List}
 use native.Mathlib.Omega.{arith}
 use native.Mathlib.Decide.{decLt}
 use borrow.Author.Tests.{lt-ltb}
-use lib.Bits.{bitAnd}
-use lib.Dec.{eqb}
 use lib.ListN.{length}
-use Rattle.logic.specs.Tests.{So, _⇒_, so-and, and-l, and-r, so-eqb, same-test, eqb↔, imp↔, not↔}
+use Rattle.logic.specs.Tests.{So, _⇒_, so-and, and-l, and-r, same-test, imp↔}
 use Rattle.logic.specs.Bounded.{allBelow, all-cong, all-intro, all-elim}
 use Rattle.logic.specs.Sets.{has, narrow, within, with}
-use Rattle.logic.specs.SetLaws.{has-suc, has-lt, no-member, some-member, and-members, narrow↔, within↔, with↔}
+use Rattle.logic.specs.SetLaws.{narrow↔, within↔, with↔}
 use Rattle.parts.specs.Numbers.{byteAt, upTo}
 use Rattle.labels.specs.Labels.{mostEntries, mostLiterals, labelWith}
 use Rattle.labels.specs.Words.{unopposed}

@@ -4,7 +4,7 @@ use Rattle.rows.specs.HeldRows.{heldAt}
 use Rattle.logic.specs.Sums.{only}
 use lib.Dec.{ltb}
 use native.Mathlib.Omega.{arith}
-use mathlib.Core.Path.{refl, _∙_, ap}
+use mathlib.Core.Path.{refl, _∙_}
 use Prim.Native.Nat.{_-_, _≤_}
 use borrow.Author.Needs.{needs}
 use Rattle.list_cells.proofs.qualified_of.Statement.{statement}

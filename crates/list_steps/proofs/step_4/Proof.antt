@@ -7,7 +7,6 @@ use Rattle.tables.specs.Tables.{describe}
 use Rattle.evidence.specs.Evidence.{labelOf}
 use Rattle.cites.specs.Cites.{is-earlier, is-bad}
 use Rattle.refutation.specs.Records.{byRule}
-use native.Mathlib.Omega.{arith}
 use Rattle.list_steps.specs.StepSteps.{named-16, named-17, named-fine, cite-4, follows-4, rule-in, rule-past}
 use borrow.Author.Needs.{needs}
 use Rattle.list_steps.proofs.step_4.Statement.{statement}

@@ -1,6 +1,6 @@
 use Prim.Native.Nat.{_-_, _<_, _≤_}
 use mathlib.Core.Path.{_≡_, _∙_, ap₂}
-use mathlib.Core.Bool.{not, _&&_}
+use mathlib.Core.Bool.{_&&_}
 use native.Mathlib.Omega.{arith}
 use Rattle.logic.specs.Sets.{has}
 use Rattle.logic.specs.Bounded.{anyBelow}

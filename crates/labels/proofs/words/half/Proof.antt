@@ -1,6 +1,5 @@
 use native.Mathlib.Omega.{arith}
 use Rattle.labels.specs.Words.{word-first, word-second, word-past}
-use mathlib.Core.Path.{refl}
 use borrow.Author.Needs.{needs}
 use Rattle.labels.proofs.words.half.Statement.{statement}
 use Rattle.labels.proofs.words.half.Tie as tie
