@@ -15,7 +15,8 @@
  *   - each pointer is valid for the length given with it, and is not NULL, not even with length 0;
  *   - these bytes are changed by nobody else during the call;
  *   - the buffer overlaps neither the description nor the evidence. What is only read may overlap.
- * The library calls memcpy and memset of the C library and nothing else.
+ * Built for x86-64 the library calls memcpy and memset of the C library and nothing else; built for a processor of 32 bits it may call the
+ * compiler's runtime too.
  */
 #ifndef SHQ_H
 #define SHQ_H

@@ -5,8 +5,8 @@ ghost use mathlib.Core.Path.{_≡_};
 ghost use mathlib.Core.Bool.{cond, _&&_};
 ghost use mathlib.Core.List.{List};
 ghost use mathlib.Core.Option.{none};
-ghost use Prim.Native.Nat.{ℕ, _*_, _<_};
-ghost use lib.Dec.{leb, ltb};
+ghost use Prim.Native.Nat.{ℕ, _*_, _%_, _<_};
+ghost use lib.Dec.{eqb, leb, ltb};
 ghost use Rattle.logic.specs.Tests.{_⇒_};
 ghost use Rattle.logic.specs.Refusals.{unless, refuse};
 ghost use Rattle.logic.specs.Sets.{has};
@@ -27,6 +27,7 @@ use labels::MOST_ENTRIES;
 use labels::empty;
 use labels::entries_of;
 use labels::holds;
+use labels::next_rest;
 use labels::put;
 use nodes::entry_count;
 use nodes::opposite;
@@ -55,12 +56,15 @@ fn is_above(cs: &[u8], above: u16, l: u8, f: EntryNo) -> bool
     (g.kind == 3) & ((g.first == l) & higher)
 }
 
-// Whether the label holds entry `f` and that is an "every q l" with `q` in the mask `above`.
-fn has_above_at(cs: &[u8], x: Label, above: u16, l: u8, f: EntryNo) -> bool
-    requires { ⌜ f .0 < mostEntries ⌝ }
-    ensures { λ q. ⌜ q ≡ (has (valueOf x) (2 * f .0) && everyAbove above l (fieldsAt (now (cs .entry)) (f .0))) ⌝ }
+// Whether entry `f` is an "every q l" with `q` in the mask `above`, and in front of `rest`: if it is not, it is not read.
+fn held_above(cs: &[u8], rest: u32, above: u16, l: u8, f: EntryNo) -> bool
+    ensures { λ q. ⌜ q ≡ (eqb (rest % 2) 1 && everyAbove above l (fieldsAt (now (cs .entry)) (f .0))) ⌝ }
 {
-    holds(x, 2 * f.0) & is_above(cs, above, l, f)
+    if rest % 2 == 1 {
+        is_above(cs, above, l, f)
+    } else {
+        false
+    }
 }
 
 // Whether the label holds such an entry.
@@ -68,9 +72,11 @@ fn has_above(cs: &[u8], x: Label, above: u16, l: u8) -> bool
     ensures { λ q. ⌜ q ≡ hasAbove (now (cs .entry)) (valueOf x) above l ⌝ }
 {
     let n = entry_count(cs);
+    let mut rest: u32 = 0;
     let mut f: u8 = 0;
     while f < n {
-        if has_above_at(cs, x, above, l, EntryNo(f)) {
+        rest = next_rest(x, rest, f);
+        if held_above(cs, rest, above, l, EntryNo(f)) {
             return true;
         }
         f += 1;

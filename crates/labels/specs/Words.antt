@@ -28,6 +28,23 @@ has-own N l = has-low (l % 32) 32 (N / 2 ^ (32 * (l / 32)) / 2 ^ 32) (wordOf N (
     ∙ ap (λ (n : ℕ). eqb (n % 2) 1) (shr-shr N (32 * (l / 32)) (l % 32))
     ∙ ap (λ (i : ℕ). eqb (N / 2 ^ i % 2) 1) (let z : 32 * (l / 32) + l % 32 ≡ l = omega arith in z)
 
+-- the word that has entry e, with the entry in front: for a walk over the entries
+abbrev pub restAt : ℕ → ℕ → ℕ
+restAt N e = wordOf N (e / 16) / 2 ^ (2 * (e % 16))
+
+pub rest-front : (N e : ℕ) → eqb (restAt N e % 2) 1 ≡ has N (2 * e)
+unfolding has
+rest-front N e = let p : e / 16 ≡ 2 * e / 32 = omega arith in let q : 2 * (e % 16) ≡ 2 * e % 32 = omega arith in
+    rw (p, q) (has-own N (2 * e))
+
+pub rest-first : (N e : ℕ) → e % 16 ≡ 0 → wordOf N (e / 16) ≡ restAt N e
+rest-first N e h = rw h (sym (div-one (wordOf N (e / 16))))
+
+pub rest-next : (N e rest : ℕ) → (e % 16 ≡ 0 → ⊥) → (0 < e → rest ≡ restAt N (e - 1)) → rest / 4 ≡ restAt N e
+rest-next N e rest h f = let l : 0 < e = omega arith in
+    let p : (e - 1) / 16 ≡ e / 16 = omega arith in let q : 2 * ((e - 1) % 16) + 2 ≡ 2 * (e % 16) = omega arith in
+    ap (λ n. n / 4) (f l) ∙ shr-shr (wordOf N ((e - 1) / 16)) (2 * ((e - 1) % 16)) 2 ∙ rw (p, q) refl
+
 -- the words of a word of 64 digits, and of two such words
 pub word-first : (x : ℕ) → x % 4294967296 ≡ wordOf x 0
 word-first x = ap (λ (n : ℕ). n % 2 ^ 32) (sym (div-one x))

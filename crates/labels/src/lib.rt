@@ -2,13 +2,13 @@
 mod words;
 
 ghost use mathlib.Core.Path.{_≡_};
-ghost use Prim.Native.Nat.{_+_, _*_, _/_, _%_, _^_, _<_, _≤_};
+ghost use Prim.Native.Nat.{_+_, _-_, _*_, _/_, _%_, _^_, _<_, _≤_};
 ghost use lib.Bits.{bitOr};
 ghost use Rattle.logic.specs.Bounded.{allBelow};
 ghost use Rattle.logic.specs.Sets.{has, narrow, within};
 ghost use Rattle.labels.specs.Blocks.{block};
 ghost use Rattle.labels.specs.Labels.{wide, labelBytes, nameBytes, num4, num8, labelIn, namesIn, labelWith, valueOf};
-ghost use Rattle.labels.specs.Words.{wordOf, unopposed, entriesOf};
+ghost use Rattle.labels.specs.Words.{wordOf, restAt, unopposed, entriesOf};
 use parts::byte;
 use parts::mask2;
 use words::half;
@@ -25,6 +25,8 @@ const MOST_NARROW: usize = 32;
 pub const WORDS: usize = 4;
 
 const WORD_LITERALS: u8 = 32;
+
+const WORD_ENTRIES: u8 = WORD_LITERALS / 2;
 
 // Literals 64 to 127, and 0 to 63.
 pub struct Label {
@@ -89,7 +91,7 @@ fn cut_octet(s: &[u8], at: usize) -> u64
     }
 }
 
-// The same, with one comparison if the eight bytes are there: every rule reads labels.
+// The same, with two comparisons if the eight bytes are there, not one a byte: every rule reads labels.
 fn octet(s: &[u8], at: usize) -> u64
     ensures { λ r. ⌜ r ≡ num8 (now (s .entry)) at ⌝ }
 {
@@ -150,6 +152,17 @@ pub fn word_of(x: Label, k: u8) -> u32
         half(x.low, k)
     } else {
         half(x.high, k - 2)
+    }
+}
+
+// The word that has entry `e`, with that in front, if `rest` is so for the entry before: a walk over the entries shifts by a fixed number.
+pub fn next_rest(x: Label, rest: u32, e: u8) -> u32
+    ensures { λ r. ⌜ ((0 < e → rest ≡ restAt (valueOf x) (e - 1)) → r ≡ restAt (valueOf x) e) ⌝ }
+{
+    if e % WORD_ENTRIES == 0 {
+        word_of(x, e / WORD_ENTRIES)
+    } else {
+        rest / 4
     }
 }
 

@@ -70,7 +70,8 @@ pub few-pairs : (m d x : ℕ) → d ≤ m → x ≤ m → x * d ≤ m * m
 few-pairs m d x h k = mul-le-mul k h
 
 -- the pair (x, y) as row x holds it
-pub row-bit : (s : List ℕ) (at d x y r row : ℕ) {b : Bool} → row ≡ at + 2 * (x * d) → b ≡ has (num2 s (row + 2 * y)) r → b ≡ pairIn s at d r x y
+pub row-bit : (s : List ℕ) (at d x y r row : ℕ) {b : Bool} → row ≡ at + 2 * (x * d)
+    → b ≡ has (num2 s (row + 2 * y)) r → b ≡ pairIn s at d r x y
 row-bit s at d x y r row e f = f ∙ ap (λ n. has (num2 s n) r) (let z : row + 2 * y ≡ at + 2 * (x * d + y) = omega arith in z)
 
 -- ---- laws for 23

@@ -210,7 +210,7 @@ fn with_every(
 }
 
 // What each of the first `k` rows shows of its own cells; `above` has the ancestors of their roles.
-// Each entry is read once, not once a row.
+// The entries are walked once, not once a row; for each "every" of a transitive role once more (`is_carried`).
 fn shown_of(
     rs: &[u8],
     cs: &[u8],

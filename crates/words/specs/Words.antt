@@ -75,7 +75,8 @@ push-off x b e = rw e (omega arith)
 pub push-none : (p : ℕ → Bool) (k : ℕ) → 0 ≡ setOf (k - k) (λ j. p (k + j))
 push-none p k = let z : k - k ≡ 0 = omega arith in rw z (set-none (λ j. p (k + j)))
 
-pub push-more : (p : ℕ → Bool) (k y x q : ℕ) (b : Bool) → k ≤ 64 → 0 < y → y ≤ k → x ≡ setOf (k - y) (λ j. p (y + j)) → b ≡ p (y - 1) → q ≡ pushed x b
+pub push-more : (p : ℕ → Bool) (k y x q : ℕ) (b : Bool) → k ≤ 64 → 0 < y → y ≤ k
+    → x ≡ setOf (k - y) (λ j. p (y + j)) → b ≡ p (y - 1) → q ≡ pushed x b
     → q ≡ setOf (k - (y - 1)) (λ j. p (y - 1 + j))
 unfolding setOf
 push-more p k y x q b h o l e f r =

@@ -14,7 +14,8 @@ load-requires : tie.Need-load-requires
 load-requires c κs = search needs
 
 returns : tie.Need-returns
-returns c = label-read (c .before .before .before .args .f) (c .before .before .before .args .s .now) _ _ _ (c .before .record-start .ensures .0) (c .load .ensures)
+returns c = label-read (c .before .before .before .args .f) (c .before .before .before .args .s .now) _ _ _
+    (c .before .record-start .ensures .0) (c .load .ensures)
 
 pub record-label-spec : {M : Type 1} → statement M
 record-label-spec = tie.close (tie.spec record-start-requires load-requires returns)

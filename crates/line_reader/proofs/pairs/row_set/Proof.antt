@@ -17,7 +17,8 @@ use Rattle.line_reader.proofs.places.bit_at.Reads as bit-at-reads
 use Rattle.words.proofs.push.Reads as push-reads
 
 abbrev Inv-loop : tie.InvT-loop
-Inv-loop s at d x r row out₀ y₀ out y = (y ≤ d) × (d ≤ mostElements) × (row ≤ 73728) × (row ≡ at + 2 * (x * d)) × (out ≡ setOf (d - y) (λ j. pairIn s at d (r .0) x (y + j)))
+Inv-loop s at d x r row out₀ y₀ out y = (y ≤ d) × (d ≤ mostElements) × (row ≤ 73728) × (row ≡ at + 2 * (x * d))
+    × (out ≡ setOf (d - y) (λ j. pairIn s at d (r .0) x (y + j)))
 
 abbrev μ-loop : tie.MeasureT-loop
 μ-loop s at d x r row out₀ y₀ out y = y
@@ -83,7 +84,8 @@ loop-again c = let a = c .before .before .before .before .before .before .args i
 )
 
 returns : tie.Need-returns Inv-loop μ-loop
-returns c = let a = c .before .before .before .before .args in push-done (pairIn (a .s .now) (a .at) (a .d) (a .r .0) (a .x)) _ (c .before .loop .y) _ (omega arith) (c .before .loop .inv .4)
+returns c = let a = c .before .before .before .before .args in push-done (pairIn (a .s .now) (a .at) (a .d) (a .r .0) (a .x))
+    _ (c .before .loop .y) _ (omega arith) (c .before .loop .inv .4)
 
 pub row-set-spec : {M : Type 1} → statement M
 row-set-spec =

@@ -22,7 +22,8 @@ bit-at-requires c κs = search needs
 
 returns : tie.Need-returns
 returns c = let a = c .before .before .before .before .args in
-    c .bit-at .ensures (namesIn (a .broad)) (subst (λ w. Numeral w (namesIn (a .broad))) (sym (c .before .name-bytes .ensures .0)) (names (a .broad)))
+    c .bit-at .ensures (namesIn (a .broad))
+    (subst (λ w. Numeral w (namesIn (a .broad))) (sym (c .before .name-bytes .ensures .0)) (names (a .broad)))
     ∙ ap (λ n. has (namesIn (a .broad) (a .s .now) n) (a .e .0)) (c .before .before .name-at .ensures .0)
 
 pub named-spec : {M : Type 1} → statement M
