@@ -133,11 +133,15 @@ static bool plain_questions(void)
     static const struct bytes limits = BYTES(four_limits_description), limits_false = BYTES(four_limits_list);
     static const struct bytes limits_sample = BYTES(four_limits_graph);
     static const struct bytes none = BYTES(no_such_line_description), none_list = BYTES(no_such_line_list);
+    static const struct bytes standby = BYTES(standby_probe_description), standby_list = BYTES(standby_probe_list);
+    static const struct bytes gone_out = BYTES(standby_probe_row_gone_out);
 
     bool right = weigh("two vats, a sample", two_vats, two_vats_sample, SHQ_INHABITED * 65536UL);
     right &= weigh("four limits, a list", limits, limits_false, 19 * 256 + 7);
     right &= weigh("four limits, a sample", limits, limits_sample, SHQ_INHABITED * 65536UL);
     right &= weigh("no such line, a list", none, none_list, SHQ_EMPTY * 65536UL);
+    right &= weigh("standby probes, a list", standby, standby_list, SHQ_EMPTY * 65536UL);
+    right &= weigh("standby probes, a cell with a role too many", standby, gone_out, 18 * 256 + 2);
     right &= no_line(limits, limits_false, 9) && no_line(none, none_list, 9);
     return right;
 }

@@ -5,23 +5,16 @@ use mathlib.Core.Bool.{Bool, true, false, _&&_, _||_}
 use native.Mathlib.Omega.{arith}
 use native.Mathlib.Numerals.{add-one}
 use lib.Bits.{bitOr}
-use Rattle.logic.specs.Tests.{so-false, same-test, or↔}
 use Rattle.logic.specs.Bounded.{anyBelow}
 use Rattle.logic.specs.Sums.{only}
 use Rattle.logic.specs.Sets.{has}
-use Rattle.logic.specs.SetLaws.{no-member, or-members}
+use Rattle.logic.specs.SetLaws.{has-none, has-or}
 
 unfoldable pub unionBelow : ℕ → (ℕ → ℕ) → ℕ
 unionBelow zero f = 0
 unionBelow (suc n) f = bitOr (unionBelow n f) (f n)
 
 -- ---- its members
-pub has-none : (i : ℕ) → has 0 i ≡ false
-has-none i = so-false (has 0 i) (no-member i)
-
-pub has-or : (a b i : ℕ) → has (bitOr a b) i ≡ (has a i || has b i)
-has-or a b i = same-test _ _ (λ u. or↔ (has a i) (has b i) .1 (or-members a b i .0 u)) (λ u. or-members a b i .1 (or↔ (has a i) (has b i) .0 u))
-
 pub has-only : (b : Bool) (m i : ℕ) → has (only b m) i ≡ (b && has m i)
 has-only true m i = refl
 has-only false m i = has-none i

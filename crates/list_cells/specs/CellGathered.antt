@@ -18,61 +18,34 @@ use Rattle.description.specs.Descriptions.{entryOfFields}
 use Rattle.tables.specs.Tables.{fieldsAt}
 use Rattle.nodes.specs.NodeSteps.{entryCount}
 use Rattle.refutation.specs.Cells.{Row}
+use Rattle.cell_walk.specs.Walks.{rolesIn}
 use Rattle.rows.specs.declared.Row as Held
 use Rattle.rows.specs.HeldRows.{given, heldAt, rowsHeld}
-use Rattle.list_cells.specs.CellSteps.{room, isEvery, rowRole, roleOf, rowShows, everyShows, carriedAt, knownIn, cellsOn, cellsCode}
+use Rattle.list_cells.specs.CellSteps.{room, rowRole, roleOf, rowShows, everyShows, carriedAt, knownIn, cellsOn, cellsCode}
 use Rattle.list_cells.specs.CellLaws.{isEvery↔, any-held}
-use Rattle.list_cells.specs.CellRows.{maskAt, labelAt, Masks, Labels, aboveOf, bitOf, showsOwn, shownBy, deniedBy, rolesIn, gives, gathered, citedIn, gatheredOn}
+use Rattle.list_cells.specs.CellRows.{maskAt, labelAt, Masks, Labels, aboveOf, bitOf, showsOwn, shownBy, deniedBy, gives, gatheredBy, gathered, citedIn, gatheredOn}
 
 -- what is in a number or 0
 only-has : (b : Bool) (n l : ℕ) → So (has (only b n) l) → So b × So (has n l)
 only-has true n l u = (refl, u)
 only-has false n l u = absurd (no-member l u)
 
-module _ (rs cs a : List ℕ) (N : ℕ) (rows : List Held.Row) (k : ℕ) (few : k ≤ 6) (shown : List Label) (against above own : List ℕ)
-    (S : Labels (λ i. shownBy cs a N (carriedAt rs cs a N) (given (heldAt rows i))) k shown) (G : Masks (λ i. deniedBy (given
-    (heldAt rows i))) k against)
-    (B : Masks (λ i. aboveOf a (given (heldAt rows i))) k above) (O : Masks (λ i. bitOf (given (heldAt rows i))) k own)
-    (words : (i : ℕ) → i < 6 → maskAt above i < 65536) where
+module _ (a : List ℕ) (rows : List Held.Row) (k : ℕ) (few : k ≤ 6) (above : List ℕ)
+    (B : Masks (λ i. aboveOf a (given (heldAt rows i))) k above) where
   abbrev row : ℕ → Row
   row i = given (heldAt rows i)
-
-  -- the entries that are carried on
-  abbrev on : ℕ → Bool
-  on = carriedAt rs cs a N
 
   below : {i : ℕ} → i < k → i < 6
   below h = omega (arith, h, few)
 
-  -- an element of each array, with what is in it
-  shown↔ : (i l : ℕ) → i < 6 → So (has (labelAt shown i) l) ↔ ((i < k) × (l < room) × So (showsOwn cs a N on (row i) l))
-  unfolding shownBy
-  shown↔ i l h = (
-    λ u. let w = only-has (ltb i k) _ l (subst (λ n. So (has n l)) (S .at i h) u) in
-        let v = setOf↔ room (showsOwn cs a N on (row i)) l .0 (w .1) in (so-ltb i k (w .0), v .0, v .1),
-    λ w. subst (λ n. So (has n l)) (sym (S .at i h)) (rw (ltb-so i k (w .0)) (setOf↔ room (showsOwn cs a N on (row i)) l .1 (w .1, w .2))),
-  )
-
-  against-at : (i : ℕ) → i < k → maskAt against i ≡ code (opposite (row i .qualifier))
-  against-at i h = rw (ltb-so i k h) at (G .at i (omega arith))
-
+  -- ---- the roles of a cell
   above↔ : (i t : ℕ) → i < 6 → So (has (maskAt above i) t) ↔ ((i < k) × So (has (aboveOf a (row i)) t))
   above↔ i t h = (
     λ u. let w = only-has (ltb i k) _ t (subst (λ n. So (has n t)) (B .at i h) u) in (so-ltb i k (w .0), w .1),
     λ w. subst (λ n. So (has n t)) (sym (B .at i h)) (rw (ltb-so i k (w .0)) (w .1)),
   )
 
-  own↔ : (i t : ℕ) → i < 6 → So (has (maskAt own i) t) ↔ ((i < k) × (row i .role < 16) × (t ≡ row i .role))
-  own↔ i t h = (
-    λ u. let w = only-has (ltb i k) _ t (subst (λ n. So (has n t)) (O .at i h) u) in let v = only-has (ltb (row i .role) 16) _ t (w .1) in
-        (so-ltb i k (w .0), so-ltb (row i .role) 16 (v .0), single↔ (row i .role) t .0 (v .1)),
-    λ w. subst (λ n. So (has n t)) (sym (O .at i h)) (rw (ltb-so i k (w .0), ltb-so (row i .role) 16 (w .1)) (single↔
-        (row i .role) t .1 (w .2))),
-  )
-
-  -- ---- one cell
   module _ (c : ℕ) where
-    -- its roles
     abbrev among : ℕ → Bool
     among = roleOf a (rowsHeld rows k) c
 
@@ -98,87 +71,119 @@ module _ (rs cs a : List ℕ) (N : ℕ) (rows : List Held.Row) (k : ℕ) (few : 
         p : ℕ → Bool
         p i = has c i && has (maskAt above i) t
 
-    -- they fit into a mask
-    role-fits : (t : ℕ) → So (among t) → t < 16
-    unfolding rolesIn
-    role-fits t u = let w = any-elim 6 (λ i. has c i && has (maskAt above i) t) (roles-gathered t ∙ u) in
-        has-lt 16 (maskAt above (w .0)) t (words (w .0) (w .1)) (and-r (has c (w .0)) _ (w .2))
+  -- ---- what a cell shows
+  module _ (rs cs : List ℕ) (N : ℕ) (shown : List Label) (against own : List ℕ)
+      (S : Labels (λ i. shownBy cs a N (carriedAt rs cs a N) (given (heldAt rows i))) k shown)
+      (G : Masks (λ i. deniedBy (given (heldAt rows i))) k against)
+      (O : Masks (λ i. bitOf (given (heldAt rows i))) k own)
+      (words : (i : ℕ) → i < 6 → maskAt above i < 65536) where
+    -- the entries that are carried on
+    abbrev on : ℕ → Bool
+    on = carriedAt rs cs a N
 
-    -- what the rows of the arrays show, and what the rows and the entries show
-    module _ (l : ℕ) (inside : l < room) where
-      abbrev given-by : ℕ → Bool
-      given-by = gives (rolesIn above c) own shown against c l
+    -- an element of each array, with what is in it
+    shown↔ : (i l : ℕ) → i < 6 → So (has (labelAt shown i) l) ↔ ((i < k) × (l < room) × So (showsOwn cs a N on (row i) l))
+    unfolding shownBy
+    shown↔ i l h = (
+      λ u. let w = only-has (ltb i k) _ l (subst (λ n. So (has n l)) (S .at i h) u) in
+          let v = setOf↔ room (showsOwn cs a N on (row i)) l .0 (w .1) in (so-ltb i k (w .0), v .0, v .1),
+      λ w. subst (λ n. So (has n l)) (sym (S .at i h)) (rw (ltb-so i k (w .0)) (setOf↔ room (showsOwn cs a N on (row i)) l .1 (w .1, w .2))),
+    )
 
-      abbrev by-rows : ℕ → Bool
-      by-rows i = rowShows among c l i (row i)
+    against-at : (i : ℕ) → i < k → maskAt against i ≡ code (opposite (row i .qualifier))
+    against-at i h = rw (ltb-so i k h) at (G .at i (omega arith))
 
-      abbrev by-entries : ℕ → Bool
-      by-entries = everyShows cs N on among l
+    own↔ : (i t : ℕ) → i < 6 → So (has (maskAt own i) t) ↔ ((i < k) × (row i .role < 16) × (t ≡ row i .role))
+    own↔ i t h = (
+      λ u. let w = only-has (ltb i k) _ t (subst (λ n. So (has n t)) (O .at i h) u) in let v = only-has (ltb (row i .role) 16) _ t (w .1) in
+          (so-ltb i k (w .0), so-ltb (row i .role) 16 (v .0), single↔ (row i .role) t .0 (v .1)),
+      λ w. subst (λ n. So (has n t)) (sym (O .at i h)) (rw (ltb-so i k (w .0), ltb-so (row i .role) 16 (w .1)) (single↔
+          (row i .role) t .1 (w .2))),
+    )
 
-      abbrev reached : ℕ → ℕ → Bool
-      reached i t = rolesIn above c t && has (maskAt own i) t
+    -- ---- one cell
+    module _ (c : ℕ) where
+      -- they fit into a mask
+      role-fits : (t : ℕ) → So ((among c) t) → t < 16
+      unfolding rolesIn
+      role-fits t u = let w = any-elim 6 (λ i. has c i && has (maskAt above i) t) (roles-gathered c t ∙ u) in
+          has-lt 16 (maskAt above (w .0)) t (words (w .0) (w .1)) (and-r (has c (w .0)) _ (w .2))
 
-      -- an entry shows by a role of the cell what it shows by the row that has it
-      entry-out : (i f : ℕ) → i < k → So (has c i) → So (everyShows cs N on (has (aboveOf a (row i))) l f) → So (by-entries f)
-      entry-out i f h v u = let w = isEvery↔ _ (entryOfFields (fieldsAt cs f)) .0 u in let t = w .0 in
-          isEvery↔ _ (entryOfFields (fieldsAt cs f)) .1 (t, w .1, w .2, so-and (among t) _ (by-row i t h v (and-l (has (aboveOf a (row i)) t) _ (w .3))) (and-r (has (aboveOf a (row i)) t) _ (w .3)))
+      -- what the rows of the arrays show, and what the rows and the entries show
+      module _ (l : ℕ) (inside : l < room) where
+        abbrev given-by : ℕ → Bool
+        given-by = gives (rolesIn above c) own shown against c l
 
-      entry-back : (f : ℕ) → So (by-entries f) → (i : ℕ) × (i < k) × So (has c i) × So (everyShows cs N on (has (aboveOf a (row i))) l f)
-      entry-back f u = let w = isEvery↔ _ (entryOfFields (fieldsAt cs f)) .0 u in let t = w .0 in let v = any-elim k (ofRow t) (some-row t ∙ and-l (among t) _ (w .3)) in let i = v .0 in (
-        i,
-        v .1,
-        and-l (has c i) _ (v .2),
-        isEvery↔ _ (entryOfFields (fieldsAt cs f)) .1 (t, w .1, w .2, so-and (has (aboveOf a (row i)) t) _ (and-r (has c i) _ (v .2)) (and-r (among t) _ (w .3))),
-      )
+        abbrev by-rows : ℕ → Bool
+        by-rows i = rowShows (among c) c l i (row i)
 
-      row-out : (i : ℕ) → i < 6 → So (given-by i) → So (anyBelow k by-rows || anyBelow (entryCount cs) by-entries)
-      row-out i h u = elim (decide (has c i)) [
-        | inl v ↦ (let w = shown↔ i l h .0 (rw v at u) in elim (or-cases (eqb (code (row i .qualifier)) l) _ (w .2)) [
-          | inl x ↦ or-l (anyBelow k by-rows) _ (any-intro k by-rows i (w .0) (rw v x))
-          | inr x ↦ (let y = any-elim (entryCount cs) (everyShows cs N on (has (aboveOf a (row i))) l) x in
-              or-r (anyBelow k by-rows) _ (any-intro (entryCount cs) by-entries (y .0) (y .1) (entry-out i (y .0) (w .0) v (y .2))))
-        ])
-        | inr v ↦ (let z = rw (so-false _ v) at u in let y = any-elim 16 (reached i) (and-l (anyBelow 16 (reached i)) _ z) in
-            let t = y .0 in
-            let o = own↔ i t h .0 (and-r (rolesIn above c t) _ (y .2)) in
-            let q : So (eqb (code (opposite (row i .qualifier))) l) = subst (λ n. So (eqb n l)) (against-at i (o .0)) (and-r
-            (anyBelow 16 (reached i)) _ z) in
-            let m : So (among (row i .role)) = subst (λ t. So (among t)) (o .2) (sym (roles-gathered t)
-            ∙ and-l (rolesIn above c t) _ (y .2)) in
-            or-l (anyBelow k by-rows) _ (any-intro k by-rows i (o .0) (rw (so-false _ v) (so-and (among (row i .role)) _ m q))))
-      ]
+        abbrev by-entries : ℕ → Bool
+        by-entries = everyShows cs N on (among c) l
 
-      row-back : (i : ℕ) → i < k → So (by-rows i) → So (given-by i)
-      row-back i h u = elim (decide (has c i)) [
-        | inl v ↦ rw v (shown↔ i l (below h) .1 (h, inside, or-l (eqb (code (row i .qualifier)) l) _ (rw v at u)))
-        | inr v ↦ (let z = rw (so-false _ v) at u in let r = row i .role in let m = and-l (among r) _ z in
-            rw (so-false _ v) (so-and (anyBelow 16 (reached i)) _
-            (any-intro 16 (reached i) r (role-fits r m) (so-and (rolesIn above c r) _ (roles-gathered r
-            ∙ m) (own↔ i r (below h) .1 (h, role-fits r m, refl))))
-            (subst (λ n. So (eqb n l)) (sym (against-at i h)) (and-r (among r) _ z))))
-      ]
+        abbrev reached : ℕ → ℕ → Bool
+        reached i t = rolesIn above c t && has (maskAt own i) t
 
-      same-shown : anyBelow 6 given-by ≡ (anyBelow k by-rows || anyBelow (entryCount cs) by-entries)
-      same-shown = same-test _ _ (λ u. let w = any-elim 6 given-by u in row-out (w .0) (w .1) (w .2))
-          (λ u. elim (or-cases (anyBelow k by-rows) _ u) [
-            | inl v ↦ (let w = any-elim k by-rows v in any-intro 6 given-by (w .0) (below (w .1)) (row-back (w .0) (w .1) (w .2)))
-            | inr v ↦ (let w = any-elim (entryCount cs) by-entries v in let y = entry-back (w .0) (w .2) in let i = y .0 in
-                any-intro 6 given-by i (below (y .1)) (rw (y .2) (shown↔ i l (below (y .1)) .1 (
-                  y .1,
-                  inside,
-                  or-r (eqb (code (row i .qualifier)) l) _
-                      (any-intro (entryCount cs) (everyShows cs N on (has (aboveOf a (row i))) l) (w .0) (w .1) (y .3)),
-                ))))
+        -- an entry shows by a role of the cell what it shows by the row that has it
+        entry-out : (i f : ℕ) → i < k → So (has c i) → So (everyShows cs N on (has (aboveOf a (row i))) l f) → So (by-entries f)
+        entry-out i f h v u = let w = isEvery↔ _ (entryOfFields (fieldsAt cs f)) .0 u in let t = w .0 in
+            isEvery↔ _ (entryOfFields (fieldsAt cs f)) .1 (t, w .1, w .2, so-and ((among c) t) _ (by-row c i t h v (and-l (has (aboveOf a (row i)) t) _ (w .3))) (and-r (has (aboveOf a (row i)) t) _ (w .3)))
+
+        entry-back : (f : ℕ) → So (by-entries f) → (i : ℕ) × (i < k) × So (has c i) × So (everyShows cs N on (has (aboveOf a (row i))) l f)
+        entry-back f u = let w = isEvery↔ _ (entryOfFields (fieldsAt cs f)) .0 u in let t = w .0 in let v = any-elim k (ofRow c t) (some-row c t ∙ and-l ((among c) t) _ (w .3)) in let i = v .0 in (
+          i,
+          v .1,
+          and-l (has c i) _ (v .2),
+          isEvery↔ _ (entryOfFields (fieldsAt cs f)) .1 (t, w .1, w .2, so-and (has (aboveOf a (row i)) t) _ (and-r (has c i) _ (v .2)) (and-r ((among c) t) _ (w .3))),
+        )
+
+        row-out : (i : ℕ) → i < 6 → So (given-by i) → So (anyBelow k by-rows || anyBelow (entryCount cs) by-entries)
+        row-out i h u = elim (decide (has c i)) [
+          | inl v ↦ (let w = shown↔ i l h .0 (rw v at u) in elim (or-cases (eqb (code (row i .qualifier)) l) _ (w .2)) [
+            | inl x ↦ or-l (anyBelow k by-rows) _ (any-intro k by-rows i (w .0) (rw v x))
+            | inr x ↦ (let y = any-elim (entryCount cs) (everyShows cs N on (has (aboveOf a (row i))) l) x in
+                or-r (anyBelow k by-rows) _ (any-intro (entryCount cs) by-entries (y .0) (y .1) (entry-out i (y .0) (w .0) v (y .2))))
           ])
+          | inr v ↦ (let z = rw (so-false _ v) at u in let y = any-elim 16 (reached i) (and-l (anyBelow 16 (reached i)) _ z) in
+              let t = y .0 in
+              let o = own↔ i t h .0 (and-r (rolesIn above c t) _ (y .2)) in
+              let q : So (eqb (code (opposite (row i .qualifier))) l) = subst (λ n. So (eqb n l)) (against-at i (o .0)) (and-r
+              (anyBelow 16 (reached i)) _ z) in
+              let m : So ((among c) (row i .role)) = subst (λ t. So ((among c) t)) (o .2) (sym (roles-gathered c t)
+              ∙ and-l (rolesIn above c t) _ (y .2)) in
+              or-l (anyBelow k by-rows) _ (any-intro k by-rows i (o .0) (rw (so-false _ v) (so-and ((among c) (row i .role)) _ m q))))
+        ]
 
-    pub known-gathered : gathered above own shown against c ≡ knownIn cs a N on (rowsHeld rows k) c
-    unfolding gathered knownIn
-    known-gathered = setOf-cong room _ _ (λ l h. ap (λ b. eqb 0 l || b) (same-shown l h ∙ ap (λ b. b || anyBelow (entryCount cs) (everyShows cs N on among l)) (any-held rows k (rowShows among c l))))
+        row-back : (i : ℕ) → i < k → So (by-rows i) → So (given-by i)
+        row-back i h u = elim (decide (has c i)) [
+          | inl v ↦ rw v (shown↔ i l (below h) .1 (h, inside, or-l (eqb (code (row i .qualifier)) l) _ (rw v at u)))
+          | inr v ↦ (let z = rw (so-false _ v) at u in let r = row i .role in let m = and-l ((among c) r) _ z in
+              rw (so-false _ v) (so-and (anyBelow 16 (reached i)) _
+              (any-intro 16 (reached i) r (role-fits r m) (so-and (rolesIn above c r) _ (roles-gathered c r
+              ∙ m) (own↔ i r (below h) .1 (h, role-fits r m, refl))))
+              (subst (λ n. So (eqb n l)) (sym (against-at i h)) (and-r ((among c) r) _ z))))
+        ]
 
-  -- ---- the cells
-  module _ (num : ℕ → ℕ) (ds : List ℕ) where
-    -- what the loop over the cells found, where k is m
-    pub cells-told : (m : ℕ) (t : Bool) → k ≡ m → allBelow (2 ^ k) (gatheredOn num above own shown against ds k) ≡ t → t ≡ cellsCode rs cs a num N (rowsHeld rows m) ds m
-    unfolding cellsCode
-    cells-told m t e h = subst (λ m. t ≡ allBelow (2 ^ m) (cellsOn cs a num N on (rowsHeld rows m) ds m)) e
-        (sym h ∙ all-cong (2 ^ k) _ _ (λ c _. ap (λ M. ltb 0 c ⇒ citedIn num M (byteAt ds (1 + k + c))) (known-gathered c)))
+        same-shown : anyBelow 6 given-by ≡ (anyBelow k by-rows || anyBelow (entryCount cs) by-entries)
+        same-shown = same-test _ _ (λ u. let w = any-elim 6 given-by u in row-out (w .0) (w .1) (w .2))
+            (λ u. elim (or-cases (anyBelow k by-rows) _ u) [
+              | inl v ↦ (let w = any-elim k by-rows v in any-intro 6 given-by (w .0) (below (w .1)) (row-back (w .0) (w .1) (w .2)))
+              | inr v ↦ (let w = any-elim (entryCount cs) by-entries v in let y = entry-back (w .0) (w .2) in let i = y .0 in
+                  any-intro 6 given-by i (below (y .1)) (rw (y .2) (shown↔ i l (below (y .1)) .1 (
+                    y .1,
+                    inside,
+                    or-r (eqb (code (row i .qualifier)) l) _
+                        (any-intro (entryCount cs) (everyShows cs N on (has (aboveOf a (row i))) l) (w .0) (w .1) (y .3)),
+                  ))))
+            ])
+
+      pub known-gathered : gathered above own shown against c ≡ knownIn cs a N on (rowsHeld rows k) c
+      unfolding gatheredBy knownIn
+      known-gathered = setOf-cong room _ _ (λ l h. ap (λ b. eqb 0 l || b) (same-shown l h ∙ ap (λ b. b || anyBelow (entryCount cs) (everyShows cs N on (among c) l)) (any-held rows k (rowShows (among c) c l))))
+
+    -- ---- the cells
+    module _ (num : ℕ → ℕ) (ds : List ℕ) where
+      -- what the loop over the cells found, where k is m
+      pub cells-told : (m : ℕ) (t : Bool) → k ≡ m → allBelow (2 ^ k) (gatheredOn num above own shown against ds k) ≡ t → t ≡ cellsCode rs cs a num N (rowsHeld rows m) ds m
+      unfolding cellsCode
+      cells-told m t e h = subst (λ m. t ≡ allBelow (2 ^ m) (cellsOn cs a num N on (rowsHeld rows m) ds m)) e
+          (sym h ∙ all-cong (2 ^ k) _ _ (λ c _. ap (λ M. ltb 0 c ⇒ citedIn num M (byteAt ds (1 + k + c))) (known-gathered c)))

@@ -14,7 +14,7 @@ use Rattle.logic.specs.Tests.{So, _⇒_, decide, and-l, and-r, or-cases, same-t
 use Rattle.logic.specs.Bounded.{allBelow, anyBelow, any-elim}
 use Rattle.logic.specs.Sums.{only}
 use Rattle.logic.specs.Sets.{has, within, setOf}
-use Rattle.logic.specs.SetLaws.{no-member, set-ext}
+use Rattle.logic.specs.SetLaws.{no-member, has-none, set-ext}
 use Rattle.parts.specs.Numbers.{byteAt}
 use Rattle.labels.specs.Labels.{labelWith, valueOf, noLabel}
 use Rattle.labels.specs.declared.Label.{Label}
@@ -30,10 +30,11 @@ use Rattle.fillers.specs.FillerSteps.{carried}
 use Rattle.refutation.specs.Cells.{Row}
 use Rattle.refutation.specs.RecordTests.{ifCited}
 use Rattle.list_form.specs.ListForm.{cellOf}
+use Rattle.cell_walk.specs.Walks.{rolesIn}
 use Rattle.rows.specs.declared.Row as Held
 use Rattle.rows.specs.HeldRows.{given, heldAt, firstAt, first-held}
 use Rattle.list_cells.specs.CellSteps.{room, everyShows, carriedAt, passes, inRoom, Puts}
-use Rattle.list_cells.specs.CellLaws.{none-in, adds-nothing, adds-more, put-set, isEvery↔, everyOf, every-read}
+use Rattle.list_cells.specs.CellLaws.{puts-nothing, puts-more, put-set, isEvery↔, everyOf, every-read}
 
 -- ---- arrays of six
 -- the values of the first k elements are those of f, and 0 behind them; v tells an element's value, and d stands past the end
@@ -81,18 +82,18 @@ abbrev pub entryShows : List ℕ → List ℕ → List ℕ → ℕ → List ℕ 
 entryShows rs cs a N above f i l = everyShows cs N (carriedAt rs cs a N) (has (maskAt above i)) l f
 
 -- ---- what a cell has of the arrays
--- t is among the roles of cell c
-unfoldable pub rolesIn : List ℕ → ℕ → ℕ → Bool
-rolesIn above c t = anyBelow 6 (λ i. has c i && has (maskAt above i) t)
-
 -- row i shows l of cell c, whose roles are those that pass `among`
 abbrev pub gives : (ℕ → Bool) → List ℕ → List Label → List ℕ → ℕ → ℕ → ℕ → Bool
 gives among own shown against c l i = cond (has c i) (has (labelAt shown i) l)
     (anyBelow 16 (λ t. among t && has (maskAt own i) t) && eqb (maskAt against i) l)
 
--- the known label
-unfoldable pub gathered : List ℕ → List ℕ → List Label → List ℕ → ℕ → ℕ
-gathered above own shown against c = setOf room (λ l. eqb 0 l || anyBelow 6 (gives (rolesIn above c) own shown against c l))
+-- the known label of cell c, whose roles are those that pass `among`
+unfoldable pub gatheredBy : (ℕ → Bool) → List ℕ → List Label → List ℕ → ℕ → ℕ
+gatheredBy among own shown against c = setOf room (λ l. eqb 0 l || anyBelow 6 (gives among own shown against c l))
+
+-- `above` has the roles that each row gives to its cells
+abbrev pub gathered : List ℕ → List ℕ → List Label → List ℕ → ℕ → ℕ
+gathered above own shown against c = gatheredBy (rolesIn above c) own shown against c
 
 -- the record that the byte b cites, if one, has its label within M; num j is the label of record j
 abbrev pub citedIn : (ℕ → ℕ) → ℕ → ℕ → Bool
@@ -108,8 +109,10 @@ module _ (num : ℕ → ℕ) (above own : List ℕ) (shown : List Label) (agains
   unfolding allBelow
   no-cell = refl
 
-  pub cell-at : (c b : ℕ) (t : Bool) → 1 ≤ c → b ≡ byteAt ds (1 + k + c) → t ≡ citedIn num (gathered above own shown against c) b → t ≡ gatheredOn num above own shown against ds k c
-  cell-at c b t h e q = rw (lt-ltb 0 c h, ← e) q
+  -- the roles r of cell c are those that its rows give
+  pub cell-at : (c b r : ℕ) (t : Bool) → 1 ≤ c → b ≡ byteAt ds (1 + k + c) → ((t : ℕ) → has r t ≡ rolesIn above c t)
+      → t ≡ citedIn num (gatheredBy (has r) own shown against c) b → t ≡ gatheredOn num above own shown against ds k c
+  cell-at c b r t h e roles q = rw (lt-ltb 0 c h, ← e) (q ∙ ap (λ (m : ℕ → Bool). citedIn num (gatheredBy m own shown against c) b) (fun-ext roles))
 
 module _ (num : ℕ → ℕ) (M b : ℕ) where
   pub cell-open : b ≡ 255 → true ≡ citedIn num M b
@@ -139,14 +142,13 @@ module _ (N M : ℕ) (b d : Bool) (p q : ℕ → Bool) where
   row-told e g x y h = subst (λ d. Puts N M (λ l. cond e (p l) (d && q l))) y (subst (λ b. Puts N M (λ l. cond b (p l) (d && q l))) x h)
 
 pub row-neither : (N : ℕ) (b d : Bool) (p q : ℕ → Bool) → b ≡ false → d ≡ false → Puts N N (λ l. cond b (p l) (d && q l))
-row-neither N b d p q e g l = adds-nothing inRoom N l ∙ rw (e, g) refl
+row-neither N b d p q e g l = puts-nothing N l ∙ rw (e, g) refl
 
 -- the label with what the rows show
-pub gathered-is : (above own : List ℕ) (shown : List Label) (against : List ℕ) (c r T Q : ℕ) → ((t : ℕ)
-    → has r t ≡ rolesIn above c t) → T ≡ labelWith 0 0
-    → Puts T Q (λ l. anyBelow 6 (gives (has r) own shown against c l)) → Q ≡ gathered above own shown against c
-unfolding gathered
-gathered-is above own shown against c r T Q roles e h = put-set T Q 0 _ e h ∙ ap (λ (m : ℕ → Bool). setOf room (λ l. eqb 0 l || anyBelow 6 (gives m own shown against c l))) (fun-ext roles)
+pub gathered-is : (among : ℕ → Bool) (own : List ℕ) (shown : List Label) (against : List ℕ) (c T Q : ℕ) → T ≡ labelWith 0 0
+    → Puts T Q (λ l. anyBelow 6 (gives among own shown against c l)) → Q ≡ gatheredBy among own shown against c
+unfolding gatheredBy
+gathered-is among own shown against c T Q e h = put-set T Q 0 _ e h
 
 -- ---- filling the arrays
 pub six-start : {A : Type 0} {v : A → ℕ} {d : A} (f : ℕ → ℕ) (x : A) → v x ≡ 0 → v d ≡ 0 → SixOf v d f 0 (replicate 6 x)
@@ -205,7 +207,7 @@ pub record Grown (old new : List Label) (p : ℕ → ℕ → Bool) : Type 0 wher
 pub grown-nothing : (old : List Label) (p : ℕ → ℕ → Bool) → length old ≡ 6 → ((i l : ℕ) → p i l ≡ false) → Grown old old p
 grown-nothing old p e h = record {
   size = e;
-  at = λ i _ l. adds-nothing inRoom (labelAt old i) l ∙ ap (λ b. has (labelAt old i) l || (inRoom l && b)) (sym (h i l));
+  at = λ i _ l. puts-nothing (labelAt old i) l ∙ ap (λ b. has (labelAt old i) l || (inRoom l && b)) (sym (h i l));
 }
 
 -- entry by entry
@@ -217,7 +219,7 @@ module _ (old mid : List Label) (f : ℕ) (p : ℕ → ℕ → ℕ → Bool) (A 
   pub grown-more : (new : List Label) → Grown mid new (p f) → Grown old new (λ i l. anyBelow (f + 1) (λ g. p g i l))
   grown-more new B = record {
     size = B .size;
-    at = λ i h. adds-more inRoom (labelAt old i) (labelAt mid i) f (λ g. p g i) (A .at i h) (labelAt new i) (B .at i h);
+    at = λ i h. puts-more (labelAt old i) (labelAt mid i) f (λ g. p g i) (A .at i h) (labelAt new i) (B .at i h);
   }
 
   pub grown-done : (n : ℕ) → f ≤ n → n ≤ f → Grown old mid (λ i l. anyBelow n (λ g. p g i l))
@@ -239,7 +241,7 @@ module _ (old out : List Label) (i : ℕ) (p : ℕ → ℕ → Bool) (A : Grown 
       here : Puts (labelAt old i) (valueOf x) (λ l. ltb i (i + 1) && p i l)
       here l = let y : i ≤ i = omega arith in let z : i < i + 1 = omega arith in
           let same : has (labelAt out i) l ≡ has (labelAt old i) l = A .at i h l
-          ∙ rw (le-ltb i i y) (sym (adds-nothing inRoom (labelAt old i) l)) in
+          ∙ rw (le-ltb i i y) (sym (puts-nothing (labelAt old i) l)) in
           B l ∙ rw (same, lt-ltb i (i + 1) z) refl
 
   pub grown-rows : 6 ≤ i → Grown old out p
@@ -267,7 +269,7 @@ module _ (rs cs a : List ℕ) (N : ℕ) (above : List ℕ) (f : ℕ) (old : List
 
       told : (i m : ℕ) → (inRoom m && (has (maskAt above i) (t .0) && has M m)) ≡ (inRoom m && entryShows rs cs a N above f i m)
       told i m = ap (λ z. inRoom m && (has (maskAt above i) (t .0) && z)) (h m
-          ∙ ap (λ z. z || (inRoom m && passes N (carried rs cs a N (t .0) l) true f l m)) (none-in m))
+          ∙ ap (λ z. z || (inRoom m && passes N (carried rs cs a N (t .0) l) true f l m)) (has-none m))
           ∙ twice (inRoom m) (has (maskAt above i) (t .0)) _
           ∙ ap (λ z. inRoom m && passes N z (has (maskAt above i) (t .0)) f l m) onward
           ∙ ap (λ z. inRoom m && z) (every-read cs f x (Every t l) e (q

@@ -11,9 +11,12 @@ ghost use Rattle.labels.specs.Labels.{mostEntries, valueOf, labelWith};
 ghost use Rattle.evidence.specs.Evidence.{labelOf};
 ghost use Rattle.rows.specs.HeldRows.{given, heldAt, rowsHeld};
 ghost use Rattle.fillers.specs.FillerSteps.{carried};
-ghost use Rattle.list_cells.specs.CellSteps.{Adds, Puts, passes, carriedAt, cellsCode};
-ghost use Rattle.list_cells.specs.CellRows.{onlyIf, Masks, Labels, maskAt, Grown, rolesIn, gathered, citedIn};
+ghost use Rattle.list_cells.specs.CellSteps.{Puts, passes, carriedAt, cellsCode};
+ghost use Rattle.list_cells.specs.CellRows.{onlyIf, Masks, Labels, maskAt, Grown, gatheredBy, citedIn};
 ghost use Rattle.list_cells.specs.CellRows.{entryShows, shownBy, deniedBy, bitOf, aboveOf};
+ghost use Rattle.cell_walk.specs.Walks.{Counted};
+use cell_walk::cell_roles;
+use cell_walk::next_cell;
 use evidence::Layout;
 use evidence::record_label;
 use fillers::is_carried;
@@ -36,13 +39,6 @@ use tables::Concept;
 use tables::EntryNo;
 use tables::RoleNo;
 use tables::concept_at;
-
-// The mask with those of `y`, if that is asked.
-fn join_if(x: u16, y: u16, asked: bool) -> u16
-    ensures { λ r. ⌜ Adds x r (λ t. asked && has y t) ⌝ }
-{
-    if asked { x | y } else { x }
-}
 
 // The label with the literal `l`, if that is asked.
 fn put_if(x: Label, l: u8, asked: bool) -> Label
@@ -234,19 +230,6 @@ fn shown_of(
     out
 }
 
-// The roles of cell `c`: those above the roles of its rows.
-fn cell_roles(above: [u16; 6], c: u8) -> u16
-    ensures { λ r. ⌜ ((t : ℕ) → has r t ≡ rolesIn above c t) ⌝ }
-{
-    let mut out: u16 = 0;
-    let mut i: u8 = 0;
-    while i < 6 {
-        out = join_if(out, above[i as usize], has16(c as u16, i));
-        i += 1;
-    }
-    out
-}
-
 // Whether two masks have a role in common.
 fn meet(x: u16, y: u16) -> bool
     ensures { λ r. ⌜ r ≡ anyBelow 16 (λ t. has x t && has y t) ⌝ }
@@ -267,11 +250,10 @@ fn with_row(x: Label, within: bool, shown: Label, reached: bool, against: u8) ->
     x
 }
 
-// The label that every filler of cell `c` has.
-fn known_label(above: [u16; 6], own: [u16; 6], shown: [Label; 6], against: [u8; 6], c: u8) -> Label
-    ensures { λ r. ⌜ valueOf r ≡ gathered above own shown against c ⌝ }
+// What cell `c` shows by its roles and rows: the label that every filler of it has.
+fn known_label(roles: u16, own: [u16; 6], shown: [Label; 6], against: [u8; 6], c: u8) -> Label
+    ensures { λ r. ⌜ valueOf r ≡ gatheredBy (has roles) own shown against c ⌝ }
 {
-    let roles = cell_roles(above, c);
     let mut out = only(0);
     let mut i: u8 = 0;
     while i < 6 {
@@ -288,10 +270,10 @@ fn known_label(above: [u16; 6], own: [u16; 6], shown: [Label; 6], against: [u8; 
     out
 }
 
-// Test 18 of cell `c`, which has the byte `cell`.
+// Test 18 of cell `c`, which has these roles and the byte `cell`.
 fn cell_ok(
     s: &[u8],
-    above: [u16; 6],
+    roles: u16,
     own: [u16; 6],
     shown: [Label; 6],
     against: [u8; 6],
@@ -299,15 +281,66 @@ fn cell_ok(
     cell: u8,
     f: Layout,
 ) -> bool
-    ensures { λ r. ⌜ r ≡ citedIn (labelOf f (now (s .entry))) (gathered above own shown against c) cell ⌝ }
+    ensures { λ r. ⌜ r ≡ citedIn (labelOf f (now (s .entry))) (gatheredBy (has roles) own shown against c) cell ⌝ }
 {
     if cell == 255 {
         return true;
     }
     lies_within(
         record_label(s, cell, f),
-        known_label(above, own, shown, against, c),
+        known_label(roles, own, shown, against, c),
     )
+}
+
+// What a walk over cells found: whether all were fine, at how many it was, and how many rows came in or went out on the way.
+struct Walk {
+    fine: bool,
+    cells: u8,
+    changes: u8,
+}
+
+// Test 18, cell by cell, up to the first that fails. The roles are carried from each cell to the next, whether it cites a record or not.
+fn walk_cells(
+    rs: &[u8],
+    cs: &[u8],
+    a: [u16; 16],
+    s: &[u8],
+    x: Label,
+    rows: [Row; 6],
+    k: u8,
+    ds: &[u8],
+    f: Layout,
+) -> Walk
+    ensures fine { λ r. ⌜ r .fine ≡ cellsCode (now (rs .entry)) (now (cs .entry)) a (labelOf f (now (s .entry))) (valueOf x) (rowsHeld rows (upTo 6 k)) (now (ds .entry)) (upTo 6 k) ⌝ }
+    ensures count { λ r. ⌜ Counted (upTo 6 k) (r .fine) (r .cells) (r .changes) ⌝ }
+{
+    let n = up_to(6, k as usize);
+    // In a byte: on a processor of 32 bits a word of 64 takes a call to be shifted.
+    let end = (cell_count(k) % 256) as u8;
+    let above = above_of(a, rows, n);
+    let own = own_of(rows, n);
+    let against = against_of(rows, n);
+    let shown = shown_of(rs, cs, a, x, rows, n, above);
+    let mut from: [u16; 7] = [0; 7];
+    let mut changes: u8 = 0;
+    let mut c: u8 = 0;
+    while c + 1 < end {
+        changes += next_cell(&mut from, &above, c);
+        c += 1;
+        let cell = byte(ds, (1 + n + c) as usize);
+        if !cell_ok(s, cell_roles(&from), own, shown, against, c, cell, f) {
+            return Walk {
+                fine: false,
+                cells: c,
+                changes: changes,
+            };
+        }
+    }
+    Walk {
+        fine: true,
+        cells: c,
+        changes: changes,
+    }
 }
 
 // Test 18: each cell that cites a record has the record's label within its known label.
@@ -324,20 +357,6 @@ pub fn cells_ok(
 ) -> bool
     ensures { λ r. ⌜ r ≡ cellsCode (now (rs .entry)) (now (cs .entry)) a (labelOf f (now (s .entry))) (valueOf x) (rowsHeld rows (upTo 6 k)) (now (ds .entry)) (upTo 6 k) ⌝ }
 {
-    let n = up_to(6, k as usize);
-    // In a byte: on a processor of 32 bits a word of 64 takes a call to be shifted.
-    let end = (cell_count(k) % 256) as u8;
-    let above = above_of(a, rows, n);
-    let own = own_of(rows, n);
-    let against = against_of(rows, n);
-    let shown = shown_of(rs, cs, a, x, rows, n, above);
-    let mut c: u8 = 1;
-    while c < end {
-        let cell = byte(ds, (1 + n + c) as usize);
-        if !cell_ok(s, above, own, shown, against, c, cell, f) {
-            return false;
-        }
-        c += 1;
-    }
-    true
+    let found = walk_cells(rs, cs, a, s, x, rows, k, ds, f);
+    found.fine
 }

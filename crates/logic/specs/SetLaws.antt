@@ -5,13 +5,13 @@ use mathlib.Core.Bool.{Bool, true, false, _||_, _&&_}
 use mathlib.Core.Logic.{_↔_, _⊎_, inl, inr}
 use native.Mathlib.Omega.{arith}
 use native.Mathlib.Decide.{decLe, decLt}
-use native.Mathlib.Nat.{div-one, div-eq-of-lt, div-self, div-div-eq-div-mul, mod-lt, mul-comm, pow-suc, zero-div, zero-max, zero-min, mod-eq-of-lt, one-mul}
+use native.Mathlib.Nat.{div-one, div-eq-of-lt, div-self, div-div-eq-div-mul, mod-lt, mul-comm, pow-suc, mod-eq-of-lt, one-mul}
 use lib.Arith.{digits-mod}
 use lib.Pow.{pow-lt, pow-mono, pow-pos}
 use lib.Dec.{eqb, ltb}
-use lib.Bits.{bitAnd, bitOr, and-step, and-shr, or-step, or-shr, and-le-l}
-use Rattle.logic.specs.Tests.{So, so-eqb, so-false, or-l, or-r, or-cases, so-ltb, ltb-so, eqb↔}
-use Rattle.logic.specs.Sums.{only, only-le, only-on, only-off}
+use lib.Bits.{bitAnd, bitOr, and-step, and-shr, or-step, or-shr}
+use Rattle.logic.specs.Tests.{So, so-eqb, so-false, same-test, or-l, or-r, or-cases, or↔, so-ltb, ltb-so, eqb↔}
+use Rattle.logic.specs.Sums.{only, only-le}
 use Rattle.logic.specs.Sets.{has, nonempty, narrow, within, with, setOf}
 
 -- ---- digits
@@ -77,6 +77,9 @@ has-word k n i h = elim (decLt i k) [
 
 pub no-member : (i : ℕ) → So (has 0 i) → ⊥
 no-member i h = absurd (omega (arith, has-lt 0 0 i (omega arith) h))
+
+pub has-none : (i : ℕ) → has 0 i ≡ false
+has-none i = so-false (has 0 i) (no-member i)
 
 pub some-member : (n : ℕ) → 1 ≤ n → (i : ℕ) × So (has n i)
 some-member n h = go n n h (omega arith)
@@ -188,6 +191,9 @@ or-members a b i = (
   where
     e : digit (bitOr a b) i ≡ max (digit a i) (digit b i)
     e = rw (or-shr a b i) (low-or (a / 2 ^ i) (b / 2 ^ i))
+
+pub has-or : (a b i : ℕ) → has (bitOr a b) i ≡ (has a i || has b i)
+has-or a b i = same-test _ _ (λ u. or↔ (has a i) (has b i) .1 (or-members a b i .0 u)) (λ u. or-members a b i .1 (or↔ (has a i) (has b i) .0 u))
 
 pub setOf-cong : (k : ℕ) (p q : ℕ → Bool) → ((i : ℕ) → i < k → p i ≡ q i) → setOf k p ≡ setOf k q
 setOf-cong k p q h = set-ext (setOf k p) (setOf k q)

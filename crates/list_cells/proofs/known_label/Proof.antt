@@ -1,6 +1,6 @@
 use Rattle.list_cells.specs.CellRows.{maskAt, labelAt, gives, row-told, gathered-is}
-use Rattle.list_cells.specs.CellLaws.{adds-none, adds-more, adds-done}
-use Rattle.list_cells.specs.CellSteps.{inRoom, Puts}
+use Rattle.list_cells.specs.CellLaws.{puts-none, puts-more, puts-done}
+use Rattle.list_cells.specs.CellSteps.{Puts}
 use Rattle.labels.specs.Labels.{valueOf}
 use Rattle.logic.specs.Sets.{has}
 use Rattle.logic.specs.Bounded.{anyBelow}
@@ -13,25 +13,21 @@ use Rattle.list_cells.proofs.known_label.Tie as tie
 use Rattle.list_cells.proofs.known_label.Reads as reads
 use Rattle.list_cells.proofs.known_label.Lts as lts
 use Rattle.labels.proofs.only.Reads as only-reads
-use Rattle.list_cells.proofs.cell_roles.Reads as cell-roles-reads
 use Rattle.list_cells.proofs.meet.Reads as meet-reads
 use Rattle.list_cells.proofs.with_row.Reads as with-row-reads
 use Rattle.roles.proofs.has16.Reads as has16-reads
 
 abbrev Inv-loop : tie.InvT-loop
-Inv-loop c own shown against roles out₀ i₀ out i = (i ≤ 6) × Puts (valueOf out₀) (valueOf out) (λ l. anyBelow i (gives (has roles) own shown against c l))
+Inv-loop roles c own shown against out₀ i₀ out i = (i ≤ 6) × Puts (valueOf out₀) (valueOf out) (λ l. anyBelow i (gives (has roles) own shown against c l))
 
 abbrev μ-loop : tie.MeasureT-loop
-μ-loop c own shown against roles out₀ i₀ out i = 6 - i
-
-cell-roles-requires : tie.Need-cell-roles-requires Inv-loop μ-loop
-cell-roles-requires c κs = search needs
+μ-loop roles c own shown against out₀ i₀ out i = 6 - i
 
 only-requires : tie.Need-only-requires Inv-loop μ-loop
 only-requires c κs = search needs
 
 loop-holds : tie.Need-loop-holds Inv-loop μ-loop
-loop-holds c = (omega arith, adds-none inRoom _ _)
+loop-holds c = (omega arith, puts-none _ _)
 
 cast-inside : tie.Need-cast-inside Inv-loop μ-loop
 cast-inside c = omega arith
@@ -74,18 +70,18 @@ loop-less c = omega arith
 
 loop-again : tie.Need-loop-again Inv-loop μ-loop
 loop-again c = let l = c .before .before .before .before .before in let v = l .loop .inv in
-    let e = l .before .before .before .args in let i = l .loop .i in (
+    let e = l .before .before .args in let i = l .loop .i in (
       omega arith,
-      adds-more inRoom (valueOf (l .before .only .result)) (valueOf (l .loop .out)) i _ (v .1) _
+      puts-more (valueOf (l .before .only .result)) (valueOf (l .loop .out)) i _ (v .1) _
           (row-told (valueOf (l .loop .out)) (valueOf (c .with-row .result)) _ _ (has (labelAt (e .t3) i)) (eqb (maskAt
           (e .t4) i)) _ _ (c .before .before .has16 .ensures) (c .before .meet .ensures)
           (c .with-row .ensures)),
     )
 
 returns : tie.Need-returns Inv-loop μ-loop
-returns c = let l = c .before in let e = l .before .before .before .args in let r = l .before .before .cell-roles in
-    gathered-is (e .above) (e .t2) (e .t3) (e .t4) (e .c) (r .result) (valueOf (l .before .only .result)) (valueOf (l .loop .out)) (r .ensures) (l .before .only .ensures)
-    (adds-done inRoom (valueOf (l .before .only .result)) (valueOf (l .loop .out)) (l .loop .i) _ (l .loop .inv .1) 6 (omega arith) (omega arith))
+returns c = let l = c .before in let e = l .before .before .args in
+    gathered-is (has (e .roles)) (e .t2) (e .t3) (e .t4) (e .c) (valueOf (l .before .only .result)) (valueOf (l .loop .out)) (l .before .only .ensures)
+    (puts-done (valueOf (l .before .only .result)) (valueOf (l .loop .out)) (l .loop .i) _ (l .loop .inv .1) 6 (omega arith) (omega arith))
 
 pub known-label-spec : {M : Type 1} → statement M
 known-label-spec =
@@ -93,7 +89,6 @@ known-label-spec =
     (tie.spec
     Inv-loop
     μ-loop
-    cell-roles-requires
     only-requires
     loop-holds
     cast-inside

@@ -1,3 +1,5 @@
+use Rattle.cell_walk.specs.Walks.{changesUpTo, Walked}
+use Rattle.cell_walk.specs.WalkLaws.{count-start, walk-start, few-changes}
 use Rattle.list_cells.specs.CellGathered.{cells-told}
 use Rattle.list_cells.specs.CellRows.{gatheredOn, no-cell, cell-at}
 use Rattle.list_cells.specs.CellSteps.{cellsCode}
@@ -11,13 +13,15 @@ use borrow.Author.Tests.{not-true, not-false}
 use lib.Pow.{pow-pos}
 use native.Mathlib.Nat.{mod-eq-of-lt}
 use native.Mathlib.Omega.{arith}
-use mathlib.Core.Bool.{Bool, true}
+use mathlib.Core.Bool.{Bool, true, false≢true}
 use mathlib.Core.Path.{_≡_, _∙_, sym, ap}
-use Prim.Native.Nat.{ℕ, _-_, _^_, _≤_, _<_}
-use Rattle.list_cells.proofs.cells_ok.Statement.{statement}
-use Rattle.list_cells.proofs.cells_ok.Tie as tie
-use Rattle.list_cells.proofs.cells_ok.Reads as reads
-use Rattle.list_cells.proofs.cells_ok.Lts as lts
+use Prim.Native.Nat.{ℕ, _+_, _-_, _^_, _≤_, _<_}
+use Rattle.list_cells.proofs.walk_cells.Statement.{statement}
+use Rattle.list_cells.proofs.walk_cells.Tie as tie
+use Rattle.list_cells.proofs.walk_cells.Reads as reads
+use Rattle.list_cells.proofs.walk_cells.Lts as lts
+use Rattle.cell_walk.proofs.cell_roles.Reads as cell-roles-reads
+use Rattle.cell_walk.proofs.next_cell.Reads as next-cell-reads
 use Rattle.list_cells.proofs.above_of.Reads as above-of-reads
 use Rattle.list_cells.proofs.against_of.Reads as against-of-reads
 use Rattle.list_cells.proofs.cell_ok.Reads as cell-ok-reads
@@ -28,11 +32,11 @@ use Rattle.parts.proofs.up_to.Reads as up-to-reads
 use Rattle.rows.proofs.cell_count.Reads as cell-count-reads
 
 abbrev Inv-loop : tie.InvT-loop
-Inv-loop rs cs s k ds f n end above own against shown c₀ c = (1 ≤ c) × (c ≤ end) × (end ≤ 64) × (n ≤ 6) × (end ≡ 2 ^ n) ×
-    (allBelow c (gatheredOn (labelOf f s) above own shown against ds n) ≡ true)
+Inv-loop rs cs s k ds f n end above own against shown from₀ changes₀ c₀ from changes c = (c + 1 ≤ end) × (end ≤ 64) × (n ≤ 6) × (end ≡ 2 ^ n) ×
+    (allBelow (c + 1) (gatheredOn (labelOf f s) above own shown against ds n) ≡ true) × (changes ≡ changesUpTo c) × Walked above c from
 
 abbrev μ-loop : tie.MeasureT-loop
-μ-loop rs cs s k ds f n end above own against shown c₀ c = end - c
+μ-loop rs cs s k ds f n end above own against shown from₀ changes₀ c₀ from changes c = end - c
 
 -- what is read before the loop
 abbrev found : tie.After-shown-of Inv-loop μ-loop → tie.After-cell-count Inv-loop μ-loop
@@ -51,15 +55,23 @@ told : (c : tie.After-shown-of Inv-loop μ-loop) (t : Bool) → allBelow (2 ^ fo
     → let g = start c .args in
     t ≡ cellsCode (g .rs .now) (g .cs .now) (g .a) (labelOf (g .f) (g .s .now)) (valueOf (g .x)) (rowsHeld (g .rows) (upTo 6 (g .k))) (g .ds .now) (upTo 6 (g .k))
 told c t h = let g = start c .args in let n = found c .before .up-to in let b = c .before .before .before .above-of in
-    cells-told (g .rs .now) (g .cs .now) (g .a) (valueOf (g .x)) (g .rows) (n .result) (n .ensures .1) _ _ _ _
-    (c .shown-of .ensures) (c .before .against-of .ensures) (b .ensures .0) (c .before .before .own-of .ensures) (b .ensures .1)
+    cells-told (g .a) (g .rows) (n .result) (n .ensures .1) _ (b .ensures .0) (g .rs .now) (g .cs .now) (valueOf (g .x)) _ _ _
+    (c .shown-of .ensures) (c .before .against-of .ensures) (c .before .before .own-of .ensures) (b .ensures .1)
     (labelOf (g .f) (g .s .now)) (g .ds .now) _ t (n .ensures .0) h
 
-here : (c : tie.After-cell-ok Inv-loop μ-loop) → c .cell-ok .result ≡ test (c .before .before .before .before) (c .before .before .before .loop .c)
-here c = let e = c .before .before .before .before in let g = start e .args in
+-- the step to the next cell, from the loop's head
+abbrev head : tie.After-next-cell Inv-loop μ-loop → tie.At-loop Inv-loop μ-loop
+head c = c .before .before .before .before
+
+counted : (c : tie.After-next-cell Inv-loop μ-loop) → head c .loop .changes + c .next-cell .result ≡ changesUpTo (head c .loop .c + 1)
+counted c = ap (λ n. n + c .next-cell .result) (head c .loop .inv .5) ∙ c .next-cell .ensures .0
+
+here : (c : tie.After-cell-ok Inv-loop μ-loop) → let l = head (c .before .before .before .before) in c .cell-ok .result ≡ test (l .before) (l .loop .c + 1)
+here c = let m = c .before .before .before .before in let l = head m in let e = l .before in let g = start e .args in
     cell-at (labelOf (g .f) (g .s .now)) (e .before .before .before .above-of .result) (e .before .before .own-of .result)
     (e .shown-of .result) (e .before .against-of .result) (g .ds .now) (found e .before .up-to .result)
-    (c .before .before .before .loop .c) _ _ (omega arith) (c .before .byte .ensures) (c .cell-ok .ensures)
+    (l .loop .c + 1) _ (c .before .cell-roles .result) _ (omega arith) (c .before .before .before .byte .ensures)
+    (c .before .cell-roles .ensures .1 _ _ (m .next-cell .ensures .1 .1 (l .loop .inv .6))) (c .cell-ok .ensures)
 
 up-to-requires : tie.Need-up-to-requires Inv-loop μ-loop
 up-to-requires c κs = search needs
@@ -86,14 +98,27 @@ loop-holds : tie.Need-loop-holds Inv-loop μ-loop
 loop-holds c = let b = found c in let n = b .before .up-to in let p = pow-pos (n .result) in
     let few : b .cell-count .result < 256 = omega (arith, b .cell-count .ensures .1) in
     let e = mod-eq-of-lt few ∙ b .cell-count .ensures .0 ∙ ap (λ m. 2 ^ m) (sym (n .ensures .0)) in let g = start c .args in (
-      omega arith,
       omega (arith, e, p),
       omega (arith, b .cell-count .ensures .1, mod-eq-of-lt few),
       n .ensures .1,
       e,
       no-cell (labelOf (g .f) (g .s .now)) (c .before .before .before .above-of .result) (c .before .before .own-of .result)
           (c .shown-of .result) (c .before .against-of .result) (g .ds .now) (n .result),
+      count-start,
+      walk-start (c .before .before .before .above-of .result),
     )
+
+add-loop : tie.Need-add-loop Inv-loop μ-loop
+add-loop c = omega arith
+
+next-cell-requires : tie.Need-next-cell-requires Inv-loop μ-loop
+next-cell-requires c κs = search needs
+
+add-changes : tie.Need-add-changes Inv-loop μ-loop
+add-changes c = let z = few-changes (head c .loop .c) _ _ (omega arith) (head c .loop .inv .5) (c .next-cell .ensures .0) in omega arith
+
+add-c : tie.Need-add-c Inv-loop μ-loop
+add-c c = omega arith
 
 add-byte : tie.Need-add-byte Inv-loop μ-loop
 add-byte c = omega arith
@@ -107,27 +132,36 @@ cast-byte c = omega arith
 byte-requires : tie.Need-byte-requires Inv-loop μ-loop
 byte-requires c κs = search needs
 
+cell-roles-requires : tie.Need-cell-roles-requires Inv-loop μ-loop
+cell-roles-requires c κs = search needs
+
 cell-ok-requires : tie.Need-cell-ok-requires Inv-loop μ-loop
 cell-ok-requires c κs = search needs
 
 returns : tie.Need-returns Inv-loop μ-loop
-returns c = let l = c .before .before .before .before in told (l .before) _ (all-stop (test (l .before)) (l .loop .c) _ (omega arith) (sym (here (c .before)) ∙ not-true _ (c .if1 .taken)))
-
-add-c : tie.Need-add-c Inv-loop μ-loop
-add-c c = omega arith
+returns c = let m = c .before .before .before .before .before in let l = head m in
+    (told (l .before) _ (all-stop (test (l .before)) (l .loop .c + 1) _ (omega arith) (sym (here (c .before)) ∙ not-true _ (c .if1 .taken))), (counted m, λ e. absurd (false≢true e)))
 
 loop-less : tie.Need-loop-less Inv-loop μ-loop
 loop-less c = omega arith
 
 loop-again : tie.Need-loop-again Inv-loop μ-loop
-loop-again c = let l = c .before .before .before .before in let v = l .loop .inv in
-    (omega arith, omega arith, v .2, v .3, v .4, all-more (test (l .before)) (l .loop .c) (v .5) (sym (here (c .before)) ∙ not-false _ (c .if1 .left)))
+loop-again c = let m = c .before .before .before .before .before in let l = head m in let v = l .loop .inv in (
+  omega arith,
+  v .1,
+  v .2,
+  v .3,
+  all-more (test (l .before)) (l .loop .c + 1) (v .4) (sym (here (c .before)) ∙ not-false _ (c .if1 .left)),
+  counted m,
+  m .next-cell .ensures .1 .1 (v .6),
+)
 
 returns-2 : tie.Need-returns-2 Inv-loop μ-loop
-returns-2 c = let v = c .before .loop .inv in told (c .before .before) _ (all-done (test (c .before .before)) (c .before .loop .c) _ (omega arith) (omega arith) (v .5))
+returns-2 c = let l = c .before in let v = l .loop .inv in
+    (told (l .before) _ (all-done (test (l .before)) (l .loop .c + 1) _ (omega arith) (omega arith) (v .4)), (v .5, λ _. omega arith))
 
-pub cells-ok-spec : {M : Type 1} → statement M
-cells-ok-spec =
+pub walk-cells-spec : {M : Type 1} → statement M
+walk-cells-spec =
     tie.close
     (tie.spec
     Inv-loop
@@ -140,13 +174,17 @@ cells-ok-spec =
     against-of-requires
     shown-of-requires
     loop-holds
+    add-loop
+    next-cell-requires
+    add-changes
+    add-c
     add-byte
     add-byte-2
     cast-byte
     byte-requires
+    cell-roles-requires
     cell-ok-requires
     returns
-    add-c
     loop-less
     loop-again
     returns-2)
