@@ -2,10 +2,10 @@
 
 use crate::compare::Comparison;
 use ::compare::encode;
-use ::compare::make::claims::{self, Claim};
-use ::compare::make::descriptions;
+use ::compare::make::claims::{self, Claim, Piece};
 use ::compare::make::refutations::{self, Known};
 use ::compare::make::spoil_claim::{spoiled, Given};
+use ::compare::make::{cells, damage, descriptions};
 use ::compare::paper::description::Description;
 use ::compare::paper::label::{opposite, Label};
 use ::compare::random::Random;
@@ -21,6 +21,7 @@ pub fn round(r: &mut Random, c: &mut Comparison, before: &mut Vec<Vec<u8>>) {
         if let Some(claim) = claims::search(r, &description) {
             let whole = Given::of(&description, &claim);
             with_changes(r, c, &description, &claim, before);
+            with_cells(r, c, &description, &claim);
             with_error(r, c, &description, &whole);
             before.insert(0, whole.first);
             before.truncate(KEPT);
@@ -42,6 +43,24 @@ fn with_changes(
     };
     for _ in 0..changes {
         c.claim(&spoiled(r, description, claim, before));
+    }
+}
+
+/// The first piece is a list whose cells cite other records.
+fn with_cells(r: &mut Random, c: &mut Comparison, description: &Description, claim: &Claim) {
+    let Piece::List(closings) = &claim.first else {
+        return;
+    };
+    for _ in 0..3 {
+        if let Some(first) = cells::narrowed(r, description, closings) {
+            let mut given = Given::of(description, claim);
+            given.first = first;
+            c.claim(&given);
+            if r.one_in(2) {
+                given.description = damage::roles(r, description);
+                c.claim(&given);
+            }
+        }
     }
 }
 

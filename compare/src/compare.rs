@@ -4,6 +4,8 @@ use crate::library;
 use compare::make::spoil_claim::Given;
 use compare::paper;
 use compare::paper::label::{Width, WIDTHS};
+use compare::paper::Answer;
+use compare::walks::{self, WALKS};
 
 /// Bytes before and after a buffer that the writer must leave alone.
 const GUARD: usize = 64;
@@ -28,6 +30,8 @@ pub struct Tally {
     pub words: [usize; library::WORDS.len()],
     /// How often each refusal number came.
     pub refusals: [usize; NUMBERS],
+    /// How often a wrong walk over cells would have changed the answer.
+    pub walks: [usize; WALKS.len()],
 }
 
 impl Tally {
@@ -52,7 +56,9 @@ impl Comparison {
     }
 
     pub fn check(&mut self, description: &[u8], evidence: &[u8]) {
-        let expected = library::code(paper::check(description, evidence));
+        let answer = paper::check(description, evidence);
+        self.count_walks(Kind::Plain, description, evidence, answer);
+        let expected = library::code(answer);
         let (d, e) = (self.placed(description), self.placed(evidence));
         let found = library::check(d.bytes(), e.bytes());
         if !self.count(Kind::Plain, description, expected, found) {
@@ -73,14 +79,16 @@ impl Comparison {
         let (c, d) = (given.c, given.d);
         let slices: [&[u8]; 3] = [&given.description, &given.first, &given.second];
         let [description, first, second] = slices;
-        let expected = library::code(paper::claim(description, c, d, first, second));
-        let placed = slices.map(|slice| self.placed(slice));
-        let [in_description, in_first, in_second] = placed.each_ref().map(Placed::bytes);
-        let found = library::claim(in_description, c, d, in_first, in_second);
         let kind = match second.is_empty() {
             true => Kind::OnePiece,
             false => Kind::TwoPieces,
         };
+        let answer = paper::claim(description, c, d, first, second);
+        self.count_walks(kind, description, first, answer);
+        let expected = library::code(answer);
+        let placed = slices.map(|slice| self.placed(slice));
+        let [in_description, in_first, in_second] = placed.each_ref().map(Placed::bytes);
+        let found = library::claim(in_description, c, d, in_first, in_second);
         if !self.count(kind, description, expected, found) {
             println!("C {c}, D {d}:");
             tell("claim", expected, found, &slices);
@@ -119,6 +127,15 @@ impl Comparison {
             zone,
             before,
             length: slice.len(),
+        }
+    }
+
+    /// Counts the walks over cells that would not have given this answer.
+    fn count_walks(&mut self, kind: Kind, description: &[u8], evidence: &[u8], answer: Answer) {
+        let tally = &mut self.tallies[kind as usize][told_width(description) as usize];
+        let shown = walks::shown(description, evidence, answer);
+        for (count, shown) in tally.walks.iter_mut().zip(shown) {
+            *count += shown as usize;
         }
     }
 

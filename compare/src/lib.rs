@@ -6,3 +6,4 @@ pub mod encode;
 pub mod make;
 pub mod paper;
 pub mod random;
+pub mod walks;

@@ -10,7 +10,9 @@ mod report;
 
 use ::compare::encode;
 use ::compare::make::refutations::Known;
-use ::compare::make::{damage, descriptions, graphs, lines, refutations, spoil_graph, spoil_list};
+use ::compare::make::{
+    cells, damage, descriptions, graphs, lines, refutations, spoil_graph, spoil_list,
+};
 use ::compare::paper::description::Description;
 use ::compare::paper::evidence::{Closing, Node};
 use ::compare::paper::label::Label;
@@ -155,6 +157,12 @@ fn with_list(
     for _ in 0..16 {
         let spoiled = spoil_list::spoiled(r, description, closings);
         c.check(bytes, &spoiled);
+    }
+    for _ in 0..2 {
+        if let Some(narrowed) = cells::narrowed(r, description, closings) {
+            c.check(bytes, &narrowed);
+            c.check(&damage::roles(r, description), &narrowed);
+        }
     }
     evidence
 }

@@ -3,6 +3,7 @@
 use crate::compare::{Comparison, Kind, KINDS, NUMBERS};
 use crate::library::WORDS;
 use compare::paper::label::{Width, WIDTHS};
+use compare::walks::WALKS;
 
 /// Each refusal must come as often, and each word, wherever it can come.
 const LEAST_REFUSALS: usize = 200;
@@ -19,7 +20,7 @@ struct Row {
 
 /// Prints the table; true if each answer came often enough and none was another than expected.
 pub fn report(c: &Comparison) -> bool {
-    let rows: Vec<Row> = words(c).chain(refusals(c)).collect();
+    let rows: Vec<Row> = words(c).chain(refusals(c)).chain(walks(c)).collect();
     let rare = rows.iter().any(Row::too_seldom);
     let kinds = ["plain", "one piece", "two pieces"].map(String::from);
     print_row(
@@ -31,7 +32,7 @@ pub fn report(c: &Comparison) -> bool {
         row.print();
     }
     if rare {
-        println!("Some answer came too seldom ({LEAST_WORDS} for a word, {LEAST_REFUSALS} for a refusal).");
+        println!("Some answer came too seldom ({LEAST_WORDS} for a word, {LEAST_REFUSALS} for a refusal or a walk).");
     }
     println!("{} inputs, {} differences", c.inputs(), c.differences);
     !rare && c.differences == 0
@@ -51,6 +52,15 @@ fn refusals(c: &Comparison) -> impl Iterator<Item = Row> + '_ {
         counts: table(|kind, width| {
             has_refusal(kind, number).then(|| c.tally(kind, width).refusals[number])
         }),
+        least: LEAST_REFUSALS,
+    })
+}
+
+/// Answers that a wrong walk over cells would have changed; any kind of input can have them.
+fn walks(c: &Comparison) -> impl Iterator<Item = Row> + '_ {
+    WALKS.iter().enumerate().map(|(walk, (_, name))| Row {
+        answer: name.to_string(),
+        counts: table(|kind, width| Some(c.tally(kind, width).walks[walk])),
         least: LEAST_REFUSALS,
     })
 }

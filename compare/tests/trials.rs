@@ -1,5 +1,5 @@
-//! The paper's trial descriptions P1 to P10, claims about that of P3 to P7, and tables at both sides
-//! of 32 and of 64 entries, by the implementation alone.
+//! The paper's trial descriptions P1 to P10, claims about that of P3 to P7, cells of two rows, and
+//! tables at both sides of 32 and of 64 entries, by the implementation alone.
 
 use compare::encode;
 use compare::paper::counting::OPEN;
@@ -139,6 +139,50 @@ fn p3_p4_p5() {
 fn p6_p7() {
     assert_eq!(check(&counted(8), &closing([1, 1])), Answer::Empty);
     assert_eq!(check(&counted(8), &closing([1, 0])), refused(19, 1));
+}
+
+/// Nothing has at most 1 filler of role 0 with the name and at least 3 of the second role with it.
+/// A cell that is shut has the name by its own row and lacks it by the other row.
+fn two_rows(second: usize, parents: u16, cells: [u8; 3]) -> Answer {
+    let named = |number, role| Concept::AtLeast {
+        number,
+        role,
+        literal: 2,
+    };
+    let concepts = vec![
+        Concept::Top,
+        Concept::Name,
+        named(2, 0),
+        named(3, second),
+        Concept::Both(5, 6),
+    ];
+    let roles = vec![role(false, 0), role(false, parents)];
+    let counting = Counting {
+        rows: vec![5, 6],
+        cells: cells.to_vec(),
+        tree: Tree::Leaf(vec![1, 1]),
+    };
+    let records = [
+        (Label::of(&[2, 3]), Step::Clash(2)),
+        (Label::of(&[5, 6]), Step::Counting(counting)),
+        (Label::of(&[8]), Step::Both { entry: 4, cite: 1 }),
+    ];
+    let closings = records.map(|(label, step)| Closing { label, step });
+    let list = encode::list(Width::Narrow, &closings);
+    check(&described(roles, concepts, 8), &list)
+}
+
+#[test]
+fn cells_of_two_rows() {
+    // Both rows have role 0: each denies its qualifier in the cell of the other.
+    assert_eq!(two_rows(0, 0, [OPEN, 0, OPEN]), Answer::Empty);
+    assert_eq!(two_rows(0, 0, [0, 0, OPEN]), Answer::Empty);
+    assert_eq!(two_rows(0, 0, [0, OPEN, OPEN]), refused(19, 1));
+    assert_eq!(two_rows(0, 0, [OPEN, 0, 0]), refused(18, 1));
+    // Row 1 has role 1, which is not included in role 0, or is, or includes it.
+    assert_eq!(two_rows(1, 0, [OPEN, 0, OPEN]), refused(18, 1));
+    assert_eq!(two_rows(1, 1, [OPEN, 0, OPEN]), Answer::Empty);
+    assert_eq!(two_rows(1, 1, [0, 0, OPEN]), refused(18, 1));
 }
 
 #[test]

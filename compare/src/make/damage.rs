@@ -72,18 +72,18 @@ pub fn description(r: &mut Random, whole: &Description) -> Vec<u8> {
         _ => {}
     }
     let mut parts = encode::description_parts(whole);
-    match r.below(12) {
+    match r.below(13) {
         0 => sizes(r, &mut parts),
         1..=2 => role(r, &mut parts[0], whole.roles.len()),
         3..=4 => entry(r, &mut parts[1], whole),
         5 => twin(r, &mut parts[1], whole),
-        6..=8 => return missing_every(r, whole),
-        9 => {
+        6..=9 => return missing_every(r, whole),
+        10 => {
             // Most often this makes a counted role not simple, or asks for an "every".
             let at = 3 * r.below(whole.roles.len());
             parts[0][at] ^= 1;
         }
-        10 => table(r, &mut parts[1]),
+        11 => table(r, &mut parts[1]),
         _ => question(r, &mut parts[2], whole.concepts.len()),
     }
     encode::join_parts(&parts)
@@ -201,6 +201,24 @@ fn missing_every(r: &mut Random, whole: &Description) -> Vec<u8> {
         let last = whole.roles.len() - 1;
         whole.roles[last].transitive = true;
         whole.roles[last].parents = (1u32 << whole.roles.len()).wrapping_sub(1) as u16;
+    }
+    encode::description(&whole)
+}
+
+/// An inclusion more or less, or another role in a count or an "every": cells have other roles.
+pub fn roles(r: &mut Random, whole: &Description) -> Vec<u8> {
+    let mut whole = whole.clone();
+    let (one, other) = (r.below(whole.roles.len()), r.below(whole.roles.len()));
+    let used = whole.concepts.iter_mut().filter_map(|c| match c {
+        Concept::AtLeast { role, .. } | Concept::Every { role, .. } => Some(role),
+        _ => None,
+    });
+    let mut used: Vec<&mut usize> = used.collect();
+    if used.is_empty() || r.one_in(2) {
+        whole.roles[one].parents ^= 1 << other;
+    } else {
+        let at = r.below(used.len());
+        *used[at] = other;
     }
     encode::description(&whole)
 }

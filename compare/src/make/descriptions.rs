@@ -1,5 +1,7 @@
 //! Random accepted descriptions.
 
+mod shared;
+
 use crate::encode;
 use crate::paper::description::{
     ancestors, Concept, Description, Role, MOST_ENTRIES, MOST_ROLES, MOST_RULES,
@@ -10,8 +12,10 @@ use crate::random::Random;
 /// A description that none of 1 to 8 refuses.
 pub fn random(r: &mut Random) -> Description {
     loop {
-        let mut maker = Maker::new(r);
+        let shared = r.one_in(5);
+        let mut maker = Maker::new(r, shared);
         match maker.r.below(10) {
+            _ if shared => maker.shared(),
             0 => maker.exactly_two_of_three(),
             1..=2 => maker.loose(),
             _ => maker.counted(),
@@ -68,9 +72,12 @@ struct Maker<'a> {
 }
 
 impl Maker<'_> {
-    fn new(r: &mut Random) -> Maker<'_> {
+    fn new(r: &mut Random, shared: bool) -> Maker<'_> {
         let size = Size::random(r);
-        let roles = random_roles(r, size.largest);
+        let roles = match shared && !size.largest {
+            true => shared::roles(r),
+            false => random_roles(r, size.largest),
+        };
         // None, some or all of the entries that are left over come first: with all of 64, the
         // literals that matter are mostly above 63.
         let spare = size.least.saturating_sub(ENOUGH);

@@ -1,6 +1,7 @@
 //! Makers of inputs: accepted descriptions, evidence found by small searches, lines, claims, and
 //! damage to each of them.
 
+pub mod cells;
 pub mod claims;
 pub mod damage;
 pub mod descriptions;

@@ -61,6 +61,17 @@ pub fn cell_roles(description: &Description, rows: &[Row], cell: usize) -> u16 {
 /// What is known of the fillers of a cell, where `label` is the record's own.
 pub fn known_label(description: &Description, label: Label, rows: &[Row], cell: usize) -> Label {
     let roles = cell_roles(description, rows, cell);
+    known_by_roles(description, label, rows, cell, roles)
+}
+
+/// The same for fillers of which these roles are known, which may be others than the cell's.
+pub fn known_by_roles(
+    description: &Description,
+    label: Label,
+    rows: &[Row],
+    cell: usize,
+    roles: u16,
+) -> Label {
     let among = |role: usize| roles >> role & 1 == 1;
     let mut known = Label::of(&[0]);
     for (i, row) in rows.iter().enumerate() {
