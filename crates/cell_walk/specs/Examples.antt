@@ -1,11 +1,8 @@
 -- Worked examples of the walk over cells, by computing.
-use Prim.Native.Nat.{ℕ, _+_, _*_, _-_, _^_}
+use Prim.Native.Nat.{ℕ}
 use mathlib.Core.Path.{_≡_, refl}
-use mathlib.Core.Bool.{Bool, true, not, _&&_}
 use mathlib.Core.List.{List, [], _∷_}
-use lib.Dec.{eqb}
-use lib.ListN.{getD}
-use Rattle.logic.specs.Bounded.{allBelow, anyBelow}
+use Rattle.logic.specs.Bounded.{anyBelow}
 use Rattle.logic.specs.Sums.{sumBelow}
 use Rattle.logic.specs.Sets.{has, setOf}
 use Rattle.cell_walk.specs.Walks.{changesTo, changesUpTo, rolesIn, rolesFrom}
@@ -40,9 +37,9 @@ unfolding roles rolesIn above has setOf anyBelow
 roles-are = (refl, refl, refl, refl, refl, refl)
 
 -- at cell 6 from each row up: the first adds nothing, for the cell is not in it; none is behind the third
-masks : List ℕ
-masks = setOf 16 (rolesFrom above 6 0) ∷ setOf 16 (rolesFrom above 6 1) ∷ setOf 16 (rolesFrom above 6 2) ∷ setOf 16 (rolesFrom above 6 3) ∷ []
+mask : ℕ → ℕ
+mask i = setOf 16 (rolesFrom above 6 i)
 
-masks-are : masks ≡ 15 ∷ 15 ∷ 9 ∷ 0 ∷ []
-unfolding masks rolesFrom above has setOf anyBelow
-masks-are = refl
+masks-are : (mask 0 ≡ 15) × (mask 1 ≡ 15) × (mask 2 ≡ 9) × (mask 3 ≡ 0)
+unfolding mask rolesFrom above has setOf anyBelow
+masks-are = (refl, refl, refl, refl)

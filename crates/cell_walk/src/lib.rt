@@ -2,7 +2,7 @@
 // from one cell to the next, and their count.
 ghost use mathlib.Core.Path.{_≡_};
 ghost use mathlib.Core.Bool.{cond};
-ghost use Prim.Native.Nat.{ℕ, _+_, _<_};
+ghost use Prim.Native.Nat.{ℕ, _+_};
 ghost use lib.Bits.{bitOr};
 ghost use lib.ListN.{length, getD};
 ghost use mathlib.Core.List.{List};
@@ -18,7 +18,8 @@ fn join_if(x: u16, y: u16, inside: bool) -> u16
     if inside { x | y } else { x }
 }
 
-// How many rows change from cell `c` to the next: the lowest row that `c` is not in comes in, and the rows below it go out.
+// How many of six rows change from cell `c` to the next: the lowest that `c` is not in comes in, and those below it go out; of a cell
+// in all rows all go out.
 fn rows_changed(c: u8) -> u8
     ensures { λ r. ⌜ FirstChange c r ⌝ }
 {
@@ -36,8 +37,10 @@ fn rows_changed(c: u8) -> u8
 // (That the array has seven elements is the language's own; a contract has to say it.)
 pub fn next_cell(from: &mut [u16; 7], above: &[u16; 6], c: u8) -> u8
     ensures count { λ r. ⌜ changesUpTo c + r ≡ changesUpTo (c + 1) ⌝ }
-    ensures masks { λ r. ⌜ (length (now (from .entry)) ≡ 7 → Corrected (now (above .entry)) c (c + 1) 0 (now (from .entry)) (now (from .exit))) ⌝ }
-    ensures roles { λ r. ⌜ (Walked (now (above .entry)) c (now (from .entry)) → Walked (now (above .entry)) (c + 1) (now (from .exit))) ⌝ }
+    ensures masks { λ r. ⌜ (length (now (from .entry)) ≡ 7
+        → Corrected (now (above .entry)) c (c + 1) (now (from .entry)) (now (from .exit))) ⌝ }
+    ensures roles { λ r. ⌜ (Walked (now (above .entry)) c (now (from .entry))
+        → Walked (now (above .entry)) (c + 1) (now (from .exit))) ⌝ }
 {
     let n = rows_changed(c);
     let mut i: u8 = n;

@@ -1,5 +1,5 @@
 -- What the cells have of the arrays, once these are filled, is the known label of test 18.
-use Prim.Native.Nat.{ℕ, _+_, _^_, _≤_, _<_}
+use Prim.Native.Nat.{ℕ, _+_, _≤_, _<_}
 use mathlib.Core.Path.{_≡_, refl, sym, _∙_, ap, subst}
 use mathlib.Core.Logic.{_↔_, inl, inr}
 use mathlib.Core.Bool.{Bool, true, false, _&&_, _||_}
@@ -7,7 +7,7 @@ use mathlib.Core.List.{List}
 use native.Mathlib.Omega.{arith}
 use lib.Dec.{eqb, ltb}
 use Rattle.logic.specs.Tests.{So, _⇒_, decide, so-and, and-l, and-r, or-l, or-r, or-cases, so-ltb, ltb-so, so-false, same-test}
-use Rattle.logic.specs.Bounded.{allBelow, anyBelow, any-elim, any-intro, all-cong}
+use Rattle.logic.specs.Bounded.{anyBelow, any-elim, any-intro}
 use Rattle.logic.specs.Sums.{only}
 use Rattle.logic.specs.Sets.{has}
 use Rattle.logic.specs.SetLaws.{no-member, has-lt, single↔, setOf↔, setOf-cong}
@@ -21,9 +21,10 @@ use Rattle.refutation.specs.Cells.{Row}
 use Rattle.cell_walk.specs.Walks.{rolesIn}
 use Rattle.rows.specs.declared.Row as Held
 use Rattle.rows.specs.HeldRows.{given, heldAt, rowsHeld}
-use Rattle.list_cells.specs.CellSteps.{room, rowRole, roleOf, rowShows, everyShows, carriedAt, knownIn, cellsOn, cellsCode}
+use Rattle.list_cells.specs.CellSteps.{room, rowRole, roleOf, rowShows, everyShows, carriedAt, knownIn, cellFine}
 use Rattle.list_cells.specs.CellLaws.{isEvery↔, any-held}
-use Rattle.list_cells.specs.CellRows.{maskAt, labelAt, Masks, Labels, aboveOf, bitOf, showsOwn, shownBy, deniedBy, gives, gatheredBy, gathered, citedIn, gatheredOn}
+use Rattle.list_cells.specs.CellRows.{maskAt, labelAt, Masks, Labels, aboveOf, bitOf, showsOwn, shownBy, deniedBy}
+use Rattle.list_cells.specs.CellRows.{gives, gatheredBy, gathered, citedIn, gatheredOn}
 
 -- what is in a number or 0
 only-has : (b : Bool) (n l : ℕ) → So (has (only b n) l) → So b × So (has n l)
@@ -103,8 +104,8 @@ module _ (a : List ℕ) (rows : List Held.Row) (k : ℕ) (few : k ≤ 6) (above 
 
     -- ---- one cell
     module _ (c : ℕ) where
-      -- they fit into a mask
-      role-fits : (t : ℕ) → So ((among c) t) → t < 16
+      -- the roles of a cell fit into a mask
+      role-fits : (t : ℕ) → So (among c t) → t < 16
       unfolding rolesIn
       role-fits t u = let w = any-elim 6 (λ i. has c i && has (maskAt above i) t) (roles-gathered c t ∙ u) in
           has-lt 16 (maskAt above (w .0)) t (words (w .0) (w .1)) (and-r (has c (w .0)) _ (w .2))
@@ -126,15 +127,28 @@ module _ (a : List ℕ) (rows : List Held.Row) (k : ℕ) (few : k ≤ 6) (above 
         -- an entry shows by a role of the cell what it shows by the row that has it
         entry-out : (i f : ℕ) → i < k → So (has c i) → So (everyShows cs N on (has (aboveOf a (row i))) l f) → So (by-entries f)
         entry-out i f h v u = let w = isEvery↔ _ (entryOfFields (fieldsAt cs f)) .0 u in let t = w .0 in
-            isEvery↔ _ (entryOfFields (fieldsAt cs f)) .1 (t, w .1, w .2, so-and ((among c) t) _ (by-row c i t h v (and-l (has (aboveOf a (row i)) t) _ (w .3))) (and-r (has (aboveOf a (row i)) t) _ (w .3)))
+            isEvery↔ _ (entryOfFields (fieldsAt cs f)) .1 (
+              t,
+              w .1,
+              w .2,
+              so-and (among c t) _
+                  (by-row c i t h v (and-l (has (aboveOf a (row i)) t) _ (w .3))) (and-r (has (aboveOf a (row i)) t) _ (w .3)),
+            )
 
         entry-back : (f : ℕ) → So (by-entries f) → (i : ℕ) × (i < k) × So (has c i) × So (everyShows cs N on (has (aboveOf a (row i))) l f)
-        entry-back f u = let w = isEvery↔ _ (entryOfFields (fieldsAt cs f)) .0 u in let t = w .0 in let v = any-elim k (ofRow c t) (some-row c t ∙ and-l ((among c) t) _ (w .3)) in let i = v .0 in (
-          i,
-          v .1,
-          and-l (has c i) _ (v .2),
-          isEvery↔ _ (entryOfFields (fieldsAt cs f)) .1 (t, w .1, w .2, so-and (has (aboveOf a (row i)) t) _ (and-r (has c i) _ (v .2)) (and-r ((among c) t) _ (w .3))),
-        )
+        entry-back f u = let w = isEvery↔ _ (entryOfFields (fieldsAt cs f)) .0 u in let t = w .0 in
+            let v = any-elim k (ofRow c t) (some-row c t ∙ and-l (among c t) _ (w .3)) in let i = v .0 in (
+              i,
+              v .1,
+              and-l (has c i) _ (v .2),
+              isEvery↔ _ (entryOfFields (fieldsAt cs f)) .1 (
+                t,
+                w .1,
+                w .2,
+                so-and (has (aboveOf a (row i)) t) _
+                    (and-r (has c i) _ (v .2)) (and-r (among c t) _ (w .3)),
+              ),
+            )
 
         row-out : (i : ℕ) → i < 6 → So (given-by i) → So (anyBelow k by-rows || anyBelow (entryCount cs) by-entries)
         row-out i h u = elim (decide (has c i)) [
@@ -148,19 +162,19 @@ module _ (a : List ℕ) (rows : List Held.Row) (k : ℕ) (few : k ≤ 6) (above 
               let o = own↔ i t h .0 (and-r (rolesIn above c t) _ (y .2)) in
               let q : So (eqb (code (opposite (row i .qualifier))) l) = subst (λ n. So (eqb n l)) (against-at i (o .0)) (and-r
               (anyBelow 16 (reached i)) _ z) in
-              let m : So ((among c) (row i .role)) = subst (λ t. So ((among c) t)) (o .2) (sym (roles-gathered c t)
+              let m : So (among c (row i .role)) = subst (λ t. So (among c t)) (o .2) (sym (roles-gathered c t)
               ∙ and-l (rolesIn above c t) _ (y .2)) in
-              or-l (anyBelow k by-rows) _ (any-intro k by-rows i (o .0) (rw (so-false _ v) (so-and ((among c) (row i .role)) _ m q))))
+              or-l (anyBelow k by-rows) _ (any-intro k by-rows i (o .0) (rw (so-false _ v) (so-and (among c (row i .role)) _ m q))))
         ]
 
         row-back : (i : ℕ) → i < k → So (by-rows i) → So (given-by i)
         row-back i h u = elim (decide (has c i)) [
           | inl v ↦ rw v (shown↔ i l (below h) .1 (h, inside, or-l (eqb (code (row i .qualifier)) l) _ (rw v at u)))
-          | inr v ↦ (let z = rw (so-false _ v) at u in let r = row i .role in let m = and-l ((among c) r) _ z in
+          | inr v ↦ (let z = rw (so-false _ v) at u in let r = row i .role in let m = and-l (among c r) _ z in
               rw (so-false _ v) (so-and (anyBelow 16 (reached i)) _
               (any-intro 16 (reached i) r (role-fits r m) (so-and (rolesIn above c r) _ (roles-gathered c r
               ∙ m) (own↔ i r (below h) .1 (h, role-fits r m, refl))))
-              (subst (λ n. So (eqb n l)) (sym (against-at i h)) (and-r ((among c) r) _ z))))
+              (subst (λ n. So (eqb n l)) (sym (against-at i h)) (and-r (among c r) _ z))))
         ]
 
         same-shown : anyBelow 6 given-by ≡ (anyBelow k by-rows || anyBelow (entryCount cs) by-entries)
@@ -178,12 +192,13 @@ module _ (a : List ℕ) (rows : List Held.Row) (k : ℕ) (few : k ≤ 6) (above 
 
       pub known-gathered : gathered above own shown against c ≡ knownIn cs a N on (rowsHeld rows k) c
       unfolding gatheredBy knownIn
-      known-gathered = setOf-cong room _ _ (λ l h. ap (λ b. eqb 0 l || b) (same-shown l h ∙ ap (λ b. b || anyBelow (entryCount cs) (everyShows cs N on (among c) l)) (any-held rows k (rowShows (among c) c l))))
+      known-gathered = setOf-cong room _ _ (λ l h. ap (λ b. eqb 0 l || b) (same-shown l h
+          ∙ ap (λ b. b || anyBelow (entryCount cs) (everyShows cs N on (among c) l)) (any-held rows k (rowShows (among c) c l))))
 
     -- ---- the cells
     module _ (num : ℕ → ℕ) (ds : List ℕ) where
-      -- what the loop over the cells found, where k is m
-      pub cells-told : (m : ℕ) (t : Bool) → k ≡ m → allBelow (2 ^ k) (gatheredOn num above own shown against ds k) ≡ t → t ≡ cellsCode rs cs a num N (rowsHeld rows m) ds m
-      unfolding cellsCode
-      cells-told m t e h = subst (λ m. t ≡ allBelow (2 ^ m) (cellsOn cs a num N on (rowsHeld rows m) ds m)) e
-          (sym h ∙ all-cong (2 ^ k) _ _ (λ c _. ap (λ M. ltb 0 c ⇒ citedIn num M (byteAt ds (1 + k + c))) (known-gathered c)))
+      -- the test of a cell by the arrays is that by the rows, where k is m
+      pub cell-told : (m : ℕ) → k ≡ m → (c : ℕ)
+          → gatheredOn num above own shown against ds k c ≡ cellFine rs cs a num N (rowsHeld rows m) ds m c
+      cell-told m e c = subst (λ m. gatheredOn num above own shown against ds k c ≡ cellFine rs cs a num N (rowsHeld rows m) ds m c) e
+          (ap (λ M. ltb 0 c ⇒ citedIn num M (byteAt ds (1 + k + c))) (known-gathered c))

@@ -82,16 +82,17 @@ abbrev pub entryShows : List ℕ → List ℕ → List ℕ → ℕ → List ℕ 
 entryShows rs cs a N above f i l = everyShows cs N (carriedAt rs cs a N) (has (maskAt above i)) l f
 
 -- ---- what a cell has of the arrays
--- row i shows l of cell c, whose roles are those that pass `among`
+-- row i shows l of cell c: inside the row by what it shows of its own cells, outside by its opposite qualifier, if the role is among those
+-- of the cell
 abbrev pub gives : (ℕ → Bool) → List ℕ → List Label → List ℕ → ℕ → ℕ → ℕ → Bool
 gives among own shown against c l i = cond (has c i) (has (labelAt shown i) l)
     (anyBelow 16 (λ t. among t && has (maskAt own i) t) && eqb (maskAt against i) l)
 
--- the known label of cell c, whose roles are those that pass `among`
+-- the known label of cell c; `among` tells its roles, for the rows outside
 unfoldable pub gatheredBy : (ℕ → Bool) → List ℕ → List Label → List ℕ → ℕ → ℕ
 gatheredBy among own shown against c = setOf room (λ l. eqb 0 l || anyBelow 6 (gives among own shown against c l))
 
--- `above` has the roles that each row gives to its cells
+-- the same where the rows of the cell tell its roles by `above`
 abbrev pub gathered : List ℕ → List ℕ → List Label → List ℕ → ℕ → ℕ
 gathered above own shown against c = gatheredBy (rolesIn above c) own shown against c
 
@@ -112,7 +113,8 @@ module _ (num : ℕ → ℕ) (above own : List ℕ) (shown : List Label) (agains
   -- the roles r of cell c are those that its rows give
   pub cell-at : (c b r : ℕ) (t : Bool) → 1 ≤ c → b ≡ byteAt ds (1 + k + c) → ((t : ℕ) → has r t ≡ rolesIn above c t)
       → t ≡ citedIn num (gatheredBy (has r) own shown against c) b → t ≡ gatheredOn num above own shown against ds k c
-  cell-at c b r t h e roles q = rw (lt-ltb 0 c h, ← e) (q ∙ ap (λ (m : ℕ → Bool). citedIn num (gatheredBy m own shown against c) b) (fun-ext roles))
+  cell-at c b r t h e roles q = rw (lt-ltb 0 c h, ← e)
+      (q ∙ ap (λ (m : ℕ → Bool). citedIn num (gatheredBy m own shown against c) b) (fun-ext roles))
 
 module _ (num : ℕ → ℕ) (M b : ℕ) where
   pub cell-open : b ≡ 255 → true ≡ citedIn num M b

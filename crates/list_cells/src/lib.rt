@@ -11,10 +11,10 @@ ghost use Rattle.labels.specs.Labels.{mostEntries, valueOf, labelWith};
 ghost use Rattle.evidence.specs.Evidence.{labelOf};
 ghost use Rattle.rows.specs.HeldRows.{given, heldAt, rowsHeld};
 ghost use Rattle.fillers.specs.FillerSteps.{carried};
-ghost use Rattle.list_cells.specs.CellSteps.{Puts, passes, carriedAt, cellsCode};
+ghost use Rattle.list_cells.specs.CellSteps.{Puts, passes, carriedAt, cellFine, cellsCode};
 ghost use Rattle.list_cells.specs.CellRows.{onlyIf, Masks, Labels, maskAt, Grown, gatheredBy, citedIn};
 ghost use Rattle.list_cells.specs.CellRows.{entryShows, shownBy, deniedBy, bitOf, aboveOf};
-ghost use Rattle.cell_walk.specs.Walks.{Counted};
+ghost use Rattle.cell_walk.specs.Walks.{Tally};
 use cell_walk::cell_roles;
 use cell_walk::next_cell;
 use evidence::Layout;
@@ -250,7 +250,7 @@ fn with_row(x: Label, within: bool, shown: Label, reached: bool, against: u8) ->
     x
 }
 
-// What cell `c` shows by its roles and rows: the label that every filler of it has.
+// What cell `c` shows: the label that every filler of it has. Of the rows outside it the roles tell which are denied.
 fn known_label(roles: u16, own: [u16; 6], shown: [Label; 6], against: [u8; 6], c: u8) -> Label
     ensures { λ r. ⌜ valueOf r ≡ gatheredBy (has roles) own shown against c ⌝ }
 {
@@ -292,7 +292,7 @@ fn cell_ok(
     )
 }
 
-// What a walk over cells found: whether all were fine, at how many it was, and how many rows came in or went out on the way.
+// What a walk over cells found: the cells that it came to, whether the last of them was fine, and how many rows came in or went out.
 struct Walk {
     fine: bool,
     cells: u8,
@@ -311,8 +311,8 @@ fn walk_cells(
     ds: &[u8],
     f: Layout,
 ) -> Walk
-    ensures fine { λ r. ⌜ r .fine ≡ cellsCode (now (rs .entry)) (now (cs .entry)) a (labelOf f (now (s .entry))) (valueOf x) (rowsHeld rows (upTo 6 k)) (now (ds .entry)) (upTo 6 k) ⌝ }
-    ensures count { λ r. ⌜ Counted (upTo 6 k) (r .fine) (r .cells) (r .changes) ⌝ }
+    ensures { λ r. ⌜ Tally (upTo 6 k) (cellFine (now (rs .entry)) (now (cs .entry)) a (labelOf f (now (s .entry))) (valueOf x)
+        (rowsHeld rows (upTo 6 k)) (now (ds .entry)) (upTo 6 k)) (r .fine) (r .cells) (r .changes) ⌝ }
 {
     let n = up_to(6, k as usize);
     // In a byte: on a processor of 32 bits a word of 64 takes a call to be shifted.
@@ -322,23 +322,18 @@ fn walk_cells(
     let against = against_of(rows, n);
     let shown = shown_of(rs, cs, a, x, rows, n, above);
     let mut from: [u16; 7] = [0; 7];
+    let mut fine = true;
+    let mut cells: u8 = 0;
     let mut changes: u8 = 0;
-    let mut c: u8 = 0;
-    while c + 1 < end {
-        changes += next_cell(&mut from, &above, c);
-        c += 1;
-        let cell = byte(ds, (1 + n + c) as usize);
-        if !cell_ok(s, cell_roles(&from), own, shown, against, c, cell, f) {
-            return Walk {
-                fine: false,
-                cells: c,
-                changes: changes,
-            };
-        }
+    while fine & (cells + 1 < end) {
+        changes += next_cell(&mut from, &above, cells);
+        cells += 1;
+        let cell = byte(ds, (1 + n + cells) as usize);
+        fine = cell_ok(s, cell_roles(&from), own, shown, against, cells, cell, f);
     }
     Walk {
-        fine: true,
-        cells: c,
+        fine: fine,
+        cells: cells,
         changes: changes,
     }
 }

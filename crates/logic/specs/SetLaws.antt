@@ -193,7 +193,8 @@ or-members a b i = (
     e = rw (or-shr a b i) (low-or (a / 2 ^ i) (b / 2 ^ i))
 
 pub has-or : (a b i : ℕ) → has (bitOr a b) i ≡ (has a i || has b i)
-has-or a b i = same-test _ _ (λ u. or↔ (has a i) (has b i) .1 (or-members a b i .0 u)) (λ u. or-members a b i .1 (or↔ (has a i) (has b i) .0 u))
+has-or a b i = same-test _ _ (λ u. or↔ (has a i) (has b i) .1 (or-members a b i .0 u))
+    (λ u. or-members a b i .1 (or↔ (has a i) (has b i) .0 u))
 
 pub setOf-cong : (k : ℕ) (p q : ℕ → Bool) → ((i : ℕ) → i < k → p i ≡ q i) → setOf k p ≡ setOf k q
 setOf-cong k p q h = set-ext (setOf k p) (setOf k q)

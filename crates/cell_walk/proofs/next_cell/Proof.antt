@@ -3,8 +3,8 @@ use mathlib.Core.Path.{_≡_, subst}
 use native.Mathlib.Omega.{arith}
 use borrow.Author.Needs.{needs}
 use lib.ListN.{length}
-use Rattle.cell_walk.specs.Walks.{Corrected}
-use Rattle.cell_walk.specs.WalkLaws.{FirstChange, correct-start, correct-more, walk-on}
+use Rattle.cell_walk.specs.Walks.{CorrectedAt, Corrected}
+use Rattle.cell_walk.specs.WalkLaws.{FirstChange, rowsUp, correct-start, correct-more, correct-done, walk-on}
 use Rattle.cell_walk.proofs.next_cell.Statement.{statement}
 use Rattle.cell_walk.proofs.next_cell.Tie as tie
 use Rattle.cell_walk.proofs.next_cell.Reads as reads
@@ -14,7 +14,8 @@ use Rattle.cell_walk.proofs.rows_changed.Reads as rows-changed-reads
 use Rattle.roles.proofs.has16.Reads as has16-reads
 
 abbrev Inv-loop : tie.InvT-loop
-Inv-loop from₀ above c n i₀ from i = (i ≤ n) × (n ≤ 6) × FirstChange c n × (length from₀ ≡ 7 → Corrected above c (c + 1) i from₀ from)
+Inv-loop from₀ above c n i₀ from i = (i ≤ n) × (n ≤ 6) × FirstChange c n
+    × (length from₀ ≡ 7 → CorrectedAt above (c + 1) (rowsUp n i) from₀ from)
 
 abbrev μ-loop : tie.MeasureT-loop
 μ-loop from₀ above c n i₀ from i = i
@@ -73,18 +74,19 @@ loop-less c = omega arith
 
 loop-again : tie.Need-loop-again Inv-loop μ-loop
 loop-again c = let l = c .before .before .before .before .before in let v = l .loop .inv in let g = l .before .before .args in
-    let i = l .loop .i in let e : i ≡ i - 1 + 1 = omega arith in (
+    let n = l .before .rows-changed .result in let i = l .loop .i in let e : i ≡ i - 1 + 1 = omega arith in (
       omega arith,
       v .1,
       v .2,
-      λ z. correct-more (g .above .now) (g .from .now) (g .c) _ (v .2) (l .loop .from) (i - 1) _ _ (omega arith) (c .before .has16 .ensures) (c .join-if .ensures)
-          (subst (λ i. Corrected (g .above .now) (g .c) (g .c + 1) i (g .from .now) (l .loop .from)) e (v .3 z)),
+      λ z. correct-more (g .above .now) (g .from .now) (g .c) n (v .2) (l .loop .from) (i - 1) _ _ (omega arith)
+          (c .before .has16 .ensures) (c .join-if .ensures)
+          (subst (λ i. CorrectedAt (g .above .now) (g .c + 1) (rowsUp n i) (g .from .now) (l .loop .from)) e (v .3 z)),
     )
 
 returns : tie.Need-returns Inv-loop μ-loop
-returns c = let l = c .before in let v = l .loop .inv in let g = l .before .before .args in let e : l .loop .i ≡ 0 = omega arith in
-    let done : length (g .from .now) ≡ 7 → Corrected (g .above .now) (g .c) (g .c + 1) 0 (g .from .now) (l .loop .from)
-    = λ z. subst (λ i. Corrected (g .above .now) (g .c) (g .c + 1) i (g .from .now) (l .loop .from)) e (v .3 z) in
+returns c = let l = c .before in let v = l .loop .inv in let g = l .before .before .args in
+    let done : length (g .from .now) ≡ 7 → Corrected (g .above .now) (g .c) (g .c + 1) (g .from .now) (l .loop .from)
+    = λ z. correct-done (g .above .now) (g .from .now) (g .c) _ (v .2) (l .loop .i) (l .loop .from) (omega arith) (v .3 z) in
     (v .2 .count, (done, λ W. walk-on (g .above .now) (g .from .now) (g .c) _ (v .2) (l .loop .from) (done (W .size)) W))
 
 pub next-cell-spec : {M : Type 1} → statement M

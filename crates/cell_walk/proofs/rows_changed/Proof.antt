@@ -29,7 +29,8 @@ add-result : tie.Need-add-result Inv-loop μ-loop
 add-result c = omega arith
 
 returns : tie.Need-returns Inv-loop μ-loop
-returns c = let b = c .before .before .before in let v = b .loop .inv in first-change _ _ (v .1) (omega arith) (row-out _ _ (v .2) (sym (c .before .has16 .ensures) ∙ not-true _ (c .if1 .taken)))
+returns c = let b = c .before .before .before in let v = b .loop .inv in
+    first-change _ _ (v .1) (omega arith) (row-out _ _ (v .2) (sym (c .before .has16 .ensures) ∙ not-true _ (c .if1 .taken)))
 
 add-i : tie.Need-add-i Inv-loop μ-loop
 add-i c = omega arith
@@ -39,7 +40,8 @@ loop-less c = omega arith
 
 loop-again : tie.Need-loop-again Inv-loop μ-loop
 loop-again c = let b = c .before .before .before in let v = b .loop .inv in
-    (omega arith, v .1, λ j k. up-to (λ j. So (has _ j)) (b .loop .i) (v .2) (sym (c .before .has16 .ensures) ∙ not-false _ (c .if1 .left)) j (omega arith))
+    let next = sym (c .before .has16 .ensures) ∙ not-false _ (c .if1 .left) in
+    (omega arith, v .1, λ j k. up-to (λ j. So (has _ j)) (b .loop .i) (v .2) next j (omega arith))
 
 returns-2 : tie.Need-returns-2 Inv-loop μ-loop
 returns-2 c = let v = c .before .loop .inv in first-change _ 5 (v .1) (omega arith) (all-in _ (λ j h. v .2 j (omega arith)))

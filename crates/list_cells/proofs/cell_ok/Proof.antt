@@ -12,7 +12,8 @@ use Rattle.labels.proofs.lies_within.Reads as lies-within-reads
 use Rattle.list_cells.proofs.known_label.Reads as known-label-reads
 
 returns : tie.Need-returns
-returns c = let g = c .before .before .args in cell-open (labelOf (g .f) (g .s .now)) (gatheredBy (has (g .roles)) (g .own) (g .shown) (g .against) (g .c)) (g .cell) (c .if1 .taken)
+returns c = let g = c .before .before .args in
+    cell-open (labelOf (g .f) (g .s .now)) (gatheredBy (has (g .roles)) (g .own) (g .shown) (g .against) (g .c)) (g .cell) (c .if1 .taken)
 
 record-label-requires : tie.Need-record-label-requires
 record-label-requires c κs = search needs
@@ -24,7 +25,10 @@ lies-within-requires : tie.Need-lies-within-requires
 lies-within-requires c κs = search needs
 
 returns-2 : tie.Need-returns-2
-returns-2 c = let g = c .before .before .before .before .before .args in c .lies-within .ensures ∙ cell-cited (labelOf (g .f) (g .s .now)) (gatheredBy (has (g .roles)) (g .own) (g .shown) (g .against) (g .c)) (g .cell) _ _ (c .before .before .before .if1 .left) (c .before .before .record-label .ensures) (c .before .known-label .ensures)
+returns-2 c = let g = c .before .before .before .before .before .args in
+    c .lies-within .ensures ∙ cell-cited (labelOf (g .f) (g .s .now))
+    (gatheredBy (has (g .roles)) (g .own) (g .shown) (g .against) (g .c)) (g .cell) _ _ (c .before .before .before .if1 .left)
+    (c .before .before .record-label .ensures) (c .before .known-label .ensures)
 
 pub cell-ok-spec : {M : Type 1} → statement M
 cell-ok-spec =

@@ -18,7 +18,8 @@ use Rattle.list_cells.proofs.with_row.Reads as with-row-reads
 use Rattle.roles.proofs.has16.Reads as has16-reads
 
 abbrev Inv-loop : tie.InvT-loop
-Inv-loop roles c own shown against out₀ i₀ out i = (i ≤ 6) × Puts (valueOf out₀) (valueOf out) (λ l. anyBelow i (gives (has roles) own shown against c l))
+Inv-loop roles c own shown against out₀ i₀ out i = (i ≤ 6)
+    × Puts (valueOf out₀) (valueOf out) (λ l. anyBelow i (gives (has roles) own shown against c l))
 
 abbrev μ-loop : tie.MeasureT-loop
 μ-loop roles c own shown against out₀ i₀ out i = 6 - i
@@ -80,7 +81,8 @@ loop-again c = let l = c .before .before .before .before .before in let v = l .l
 
 returns : tie.Need-returns Inv-loop μ-loop
 returns c = let l = c .before in let e = l .before .before .args in
-    gathered-is (has (e .roles)) (e .t2) (e .t3) (e .t4) (e .c) (valueOf (l .before .only .result)) (valueOf (l .loop .out)) (l .before .only .ensures)
+    gathered-is (has (e .roles)) (e .t2) (e .t3) (e .t4) (e .c)
+    (valueOf (l .before .only .result)) (valueOf (l .loop .out)) (l .before .only .ensures)
     (puts-done (valueOf (l .before .only .result)) (valueOf (l .loop .out)) (l .loop .i) _ (l .loop .inv .1) 6 (omega arith) (omega arith))
 
 pub known-label-spec : {M : Type 1} → statement M

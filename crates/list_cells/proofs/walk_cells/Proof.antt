@@ -1,21 +1,22 @@
-use Rattle.cell_walk.specs.Walks.{changesUpTo, Walked}
-use Rattle.cell_walk.specs.WalkLaws.{count-start, walk-start, few-changes}
-use Rattle.list_cells.specs.CellGathered.{cells-told}
-use Rattle.list_cells.specs.CellRows.{gatheredOn, no-cell, cell-at}
-use Rattle.list_cells.specs.CellSteps.{cellsCode}
-use Rattle.evidence.specs.Evidence.{labelOf}
-use Rattle.parts.specs.Numbers.{upTo}
-use Rattle.rows.specs.HeldRows.{rowsHeld}
-use Rattle.labels.specs.Labels.{valueOf}
-use Rattle.logic.specs.Bounded.{allBelow, all-stop, all-more, all-done}
-use borrow.Author.Needs.{needs}
-use borrow.Author.Tests.{not-true, not-false}
-use lib.Pow.{pow-pos}
+use Prim.Native.Nat.{ℕ, _+_, _-_, _%_, _^_, _≤_, _<_}
+use mathlib.Core.Path.{_≡_, _∙_, sym, ap}
+use mathlib.Core.Bool.{Bool, true, false≢true}
 use native.Mathlib.Nat.{mod-eq-of-lt}
 use native.Mathlib.Omega.{arith}
-use mathlib.Core.Bool.{Bool, true, false≢true}
-use mathlib.Core.Path.{_≡_, _∙_, sym, ap}
-use Prim.Native.Nat.{ℕ, _+_, _-_, _^_, _≤_, _<_}
+use native.Mathlib.Decide.{decLt}
+use lib.Pow.{pow-pos}
+use borrow.Author.Needs.{needs}
+use Rattle.logic.specs.Tests.{and-l, and-r, so-and, so-ltb, ltb-so}
+use Rattle.logic.specs.Bounded.{allBelow, all-none}
+use Rattle.parts.specs.Numbers.{upTo}
+use Rattle.labels.specs.Labels.{valueOf}
+use Rattle.evidence.specs.Evidence.{labelOf}
+use Rattle.rows.specs.HeldRows.{rowsHeld}
+use Rattle.cell_walk.specs.Walks.{changesUpTo, Walked}
+use Rattle.cell_walk.specs.WalkLaws.{count-start, few-changes, all-next, tally-as, walk-start}
+use Rattle.list_cells.specs.CellSteps.{cellFine}
+use Rattle.list_cells.specs.CellRows.{gatheredOn, no-cell, cell-at}
+use Rattle.list_cells.specs.CellGathered.{cell-told}
 use Rattle.list_cells.proofs.walk_cells.Statement.{statement}
 use Rattle.list_cells.proofs.walk_cells.Tie as tie
 use Rattle.list_cells.proofs.walk_cells.Reads as reads
@@ -32,11 +33,14 @@ use Rattle.parts.proofs.up_to.Reads as up-to-reads
 use Rattle.rows.proofs.cell_count.Reads as cell-count-reads
 
 abbrev Inv-loop : tie.InvT-loop
-Inv-loop rs cs s k ds f n end above own against shown from₀ changes₀ c₀ from changes c = (c + 1 ≤ end) × (end ≤ 64) × (n ≤ 6) × (end ≡ 2 ^ n) ×
-    (allBelow (c + 1) (gatheredOn (labelOf f s) above own shown against ds n) ≡ true) × (changes ≡ changesUpTo c) × Walked above c from
+Inv-loop rs cs s k ds f n end above own against shown from₀ fine₀ cells₀ changes₀ from fine cells changes =
+    (cells + 1 ≤ end) × (end ≤ 64) × (n ≤ 6) × (end ≡ 2 ^ n)
+    × (allBelow cells (gatheredOn (labelOf f s) above own shown against ds n) ≡ true)
+    × (fine ≡ allBelow (cells + 1) (gatheredOn (labelOf f s) above own shown against ds n))
+    × (changes ≡ changesUpTo cells) × Walked above cells from
 
 abbrev μ-loop : tie.MeasureT-loop
-μ-loop rs cs s k ds f n end above own against shown from₀ changes₀ c₀ from changes c = end - c
+μ-loop rs cs s k ds f n end above own against shown from₀ fine₀ cells₀ changes₀ from fine cells changes = end - cells
 
 -- what is read before the loop
 abbrev found : tie.After-shown-of Inv-loop μ-loop → tie.After-cell-count Inv-loop μ-loop
@@ -51,27 +55,32 @@ test c = let g = start c .args in
     gatheredOn (labelOf (g .f) (g .s .now)) (c .before .before .before .above-of .result) (c .before .before .own-of .result)
     (c .shown-of .result) (c .before .against-of .result) (g .ds .now) (found c .before .up-to .result)
 
-told : (c : tie.After-shown-of Inv-loop μ-loop) (t : Bool) → allBelow (2 ^ found c .before .up-to .result) (test c) ≡ t
-    → let g = start c .args in
-    t ≡ cellsCode (g .rs .now) (g .cs .now) (g .a) (labelOf (g .f) (g .s .now)) (valueOf (g .x)) (rowsHeld (g .rows) (upTo 6 (g .k))) (g .ds .now) (upTo 6 (g .k))
-told c t h = let g = start c .args in let n = found c .before .up-to in let b = c .before .before .before .above-of in
-    cells-told (g .a) (g .rows) (n .result) (n .ensures .1) _ (b .ensures .0) (g .rs .now) (g .cs .now) (valueOf (g .x)) _ _ _
+-- is the one by the rows
+told : (c : tie.After-shown-of Inv-loop μ-loop) (m : ℕ) → let g = start c .args in
+    test c m ≡ cellFine (g .rs .now) (g .cs .now) (g .a) (labelOf (g .f) (g .s .now)) (valueOf (g .x)) (rowsHeld (g .rows) (upTo 6 (g .k)))
+    (g .ds .now) (upTo 6 (g .k)) m
+told c m = let g = start c .args in let n = found c .before .up-to in let b = c .before .before .before .above-of in
+    cell-told (g .a) (g .rows) (n .result) (n .ensures .1) _ (b .ensures .0) (g .rs .now) (g .cs .now) (valueOf (g .x)) _ _ _
     (c .shown-of .ensures) (c .before .against-of .ensures) (c .before .before .own-of .ensures) (b .ensures .1)
-    (labelOf (g .f) (g .s .now)) (g .ds .now) _ t (n .ensures .0) h
+    (labelOf (g .f) (g .s .now)) (g .ds .now) _ (n .ensures .0) m
 
 -- the step to the next cell, from the loop's head
 abbrev head : tie.After-next-cell Inv-loop μ-loop → tie.At-loop Inv-loop μ-loop
 head c = c .before .before .before .before
 
-counted : (c : tie.After-next-cell Inv-loop μ-loop) → head c .loop .changes + c .next-cell .result ≡ changesUpTo (head c .loop .c + 1)
-counted c = ap (λ n. n + c .next-cell .result) (head c .loop .inv .5) ∙ c .next-cell .ensures .0
+more : (c : tie.After-next-cell Inv-loop μ-loop) → head c .loop .cells + 1 < found (head c .before) .cell-count .result % 256
+more c = so-ltb _ _ (and-r (head c .loop .fine) _ (c .before .before .before .loop-test .taken))
 
-here : (c : tie.After-cell-ok Inv-loop μ-loop) → let l = head (c .before .before .before .before) in c .cell-ok .result ≡ test (l .before) (l .loop .c + 1)
+counted : (c : tie.After-next-cell Inv-loop μ-loop) → head c .loop .changes + c .next-cell .result ≡ changesUpTo (head c .loop .cells + 1)
+counted c = ap (λ n. n + c .next-cell .result) (head c .loop .inv .6) ∙ c .next-cell .ensures .0
+
+here : (c : tie.After-cell-ok Inv-loop μ-loop) → let l = head (c .before .before .before .before) in
+    c .cell-ok .result ≡ test (l .before) (l .loop .cells + 1)
 here c = let m = c .before .before .before .before in let l = head m in let e = l .before in let g = start e .args in
     cell-at (labelOf (g .f) (g .s .now)) (e .before .before .before .above-of .result) (e .before .before .own-of .result)
     (e .shown-of .result) (e .before .against-of .result) (g .ds .now) (found e .before .up-to .result)
-    (l .loop .c + 1) _ (c .before .cell-roles .result) _ (omega arith) (c .before .before .before .byte .ensures)
-    (c .before .cell-roles .ensures .1 _ _ (m .next-cell .ensures .1 .1 (l .loop .inv .6))) (c .cell-ok .ensures)
+    (l .loop .cells + 1) _ (c .before .cell-roles .result) _ (omega arith) (c .before .before .before .byte .ensures)
+    (c .before .cell-roles .ensures .1 _ _ (m .next-cell .ensures .1 .1 (l .loop .inv .7))) (c .cell-ok .ensures)
 
 up-to-requires : tie.Need-up-to-requires Inv-loop μ-loop
 up-to-requires c κs = search needs
@@ -102,8 +111,9 @@ loop-holds c = let b = found c in let n = b .before .up-to in let p = pow-pos (n
       omega (arith, b .cell-count .ensures .1, mod-eq-of-lt few),
       n .ensures .1,
       e,
-      no-cell (labelOf (g .f) (g .s .now)) (c .before .before .before .above-of .result) (c .before .before .own-of .result)
-          (c .shown-of .result) (c .before .against-of .result) (g .ds .now) (n .result),
+      all-none (test c),
+      sym (no-cell (labelOf (g .f) (g .s .now)) (c .before .before .before .above-of .result) (c .before .before .own-of .result)
+          (c .shown-of .result) (c .before .against-of .result) (g .ds .now) (n .result)),
       count-start,
       walk-start (c .before .before .before .above-of .result),
     )
@@ -115,10 +125,12 @@ next-cell-requires : tie.Need-next-cell-requires Inv-loop μ-loop
 next-cell-requires c κs = search needs
 
 add-changes : tie.Need-add-changes Inv-loop μ-loop
-add-changes c = let z = few-changes (head c .loop .c) _ _ (omega arith) (head c .loop .inv .5) (c .next-cell .ensures .0) in omega arith
+add-changes c =
+    let few = few-changes (head c .loop .cells) _ _ (omega (arith, more c)) (head c .loop .inv .6) (c .next-cell .ensures .0) in
+    omega arith
 
-add-c : tie.Need-add-c Inv-loop μ-loop
-add-c c = omega arith
+add-cells : tie.Need-add-cells Inv-loop μ-loop
+add-cells c = omega arith
 
 add-byte : tie.Need-add-byte Inv-loop μ-loop
 add-byte c = omega arith
@@ -138,27 +150,34 @@ cell-roles-requires c κs = search needs
 cell-ok-requires : tie.Need-cell-ok-requires Inv-loop μ-loop
 cell-ok-requires c κs = search needs
 
-returns : tie.Need-returns Inv-loop μ-loop
-returns c = let m = c .before .before .before .before .before in let l = head m in
-    (told (l .before) _ (all-stop (test (l .before)) (l .loop .c + 1) _ (omega arith) (sym (here (c .before)) ∙ not-true _ (c .if1 .taken))), (counted m, λ e. absurd (false≢true e)))
-
 loop-less : tie.Need-loop-less Inv-loop μ-loop
 loop-less c = omega arith
 
 loop-again : tie.Need-loop-again Inv-loop μ-loop
-loop-again c = let m = c .before .before .before .before .before in let l = head m in let v = l .loop .inv in (
-  omega arith,
-  v .1,
-  v .2,
-  v .3,
-  all-more (test (l .before)) (l .loop .c + 1) (v .4) (sym (here (c .before)) ∙ not-false _ (c .if1 .left)),
-  counted m,
-  m .next-cell .ensures .1 .1 (v .6),
-)
+loop-again c = let m = c .before .before .before .before in let l = head m in let v = l .loop .inv in
+    let all = sym (v .5) ∙ and-l (l .loop .fine) _ (m .before .before .before .loop-test .taken) in (
+      omega (arith, more m),
+      v .1,
+      v .2,
+      v .3,
+      all,
+      all-next (test (l .before)) (l .loop .cells + 1) _ all (here c),
+      counted m,
+      m .next-cell .ensures .1 .1 (v .7),
+    )
 
-returns-2 : tie.Need-returns-2 Inv-loop μ-loop
-returns-2 c = let l = c .before in let v = l .loop .inv in
-    (told (l .before) _ (all-done (test (l .before)) (l .loop .c + 1) _ (omega arith) (omega arith) (v .4)), (v .5, λ _. omega arith))
+returns : tie.Need-returns Inv-loop μ-loop
+returns c = let l = c .before in let v = l .loop .inv in
+    tally-as (record {
+      count = v .6;
+      before = v .4;
+      here = v .5;
+      inside = omega arith;
+      whole = λ u. elim (decLt (l .loop .cells + 1) (found (l .before) .cell-count .result % 256)) [
+        | yes h ↦ absurd (false≢true (sym (c .loop-test .left) ∙ so-and (l .loop .fine) _ u (ltb-so _ _ h)))
+        | no h ↦ omega arith
+      ];
+    }) _ _ (found (l .before) .before .up-to .ensures .0) (told (l .before))
 
 pub walk-cells-spec : {M : Type 1} → statement M
 walk-cells-spec =
@@ -177,14 +196,13 @@ walk-cells-spec =
     add-loop
     next-cell-requires
     add-changes
-    add-c
+    add-cells
     add-byte
     add-byte-2
     cast-byte
     byte-requires
     cell-roles-requires
     cell-ok-requires
-    returns
     loop-less
     loop-again
-    returns-2)
+    returns)
