@@ -1,6 +1,6 @@
 // Test 18 of a counting step: what every filler of a cell has, and that the record cited for the cell has no more.
 ghost use mathlib.Core.Path.{_≡_};
-ghost use mathlib.Core.Bool.{_&&_, cond, true};
+ghost use mathlib.Core.Bool.{_&&_, cond, true, false};
 ghost use Prim.Native.Nat.{ℕ, _*_, _<_, _≤_};
 ghost use lib.Dec.{eqb};
 ghost use lib.ListN.{length};
@@ -299,6 +299,17 @@ struct Walk {
     changes: u8,
 }
 
+// A walk that ended at cell `c`, which was not fine.
+fn ended_at(c: u8, n: u8) -> Walk
+    ensures { λ r. ⌜ (r .fine ≡ false) × (r .cells ≡ c) × (r .changes ≡ n) ⌝ }
+{
+    Walk {
+        fine: false,
+        cells: c,
+        changes: n,
+    }
+}
+
 // Test 18, cell by cell, up to the first that fails. The roles are carried from each cell to the next, whether it cites a record or not.
 fn walk_cells(
     rs: &[u8],
@@ -322,17 +333,18 @@ fn walk_cells(
     let against = against_of(rows, n);
     let shown = shown_of(rs, cs, a, x, rows, n, above);
     let mut from: [u16; 7] = [0; 7];
-    let mut fine = true;
     let mut cells: u8 = 0;
     let mut changes: u8 = 0;
-    while fine & (cells + 1 < end) {
+    while cells + 1 < end {
         changes += next_cell(&mut from, &above, cells);
         cells += 1;
         let cell = byte(ds, (1 + n + cells) as usize);
-        fine = cell_ok(s, cell_roles(&from), own, shown, against, cells, cell, f);
+        if !cell_ok(s, cell_roles(&from), own, shown, against, cells, cell, f) {
+            return ended_at(cells, changes);
+        }
     }
     Walk {
-        fine: fine,
+        fine: true,
         cells: cells,
         changes: changes,
     }

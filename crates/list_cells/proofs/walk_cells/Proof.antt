@@ -1,13 +1,12 @@
-use Prim.Native.Nat.{ℕ, _+_, _-_, _%_, _^_, _≤_, _<_}
+use Prim.Native.Nat.{ℕ, _+_, _-_, _^_, _≤_, _<_}
 use mathlib.Core.Path.{_≡_, _∙_, sym, ap}
 use mathlib.Core.Bool.{Bool, true, false≢true}
 use native.Mathlib.Nat.{mod-eq-of-lt}
 use native.Mathlib.Omega.{arith}
-use native.Mathlib.Decide.{decLt}
 use lib.Pow.{pow-pos}
 use borrow.Author.Needs.{needs}
-use Rattle.logic.specs.Tests.{and-l, and-r, so-and, so-ltb, ltb-so}
-use Rattle.logic.specs.Bounded.{allBelow, all-none}
+use borrow.Author.Tests.{not-true, not-false}
+use Rattle.logic.specs.Bounded.{allBelow, all-elim, all-intro, all-more}
 use Rattle.parts.specs.Numbers.{upTo}
 use Rattle.labels.specs.Labels.{valueOf}
 use Rattle.evidence.specs.Evidence.{labelOf}
@@ -26,6 +25,7 @@ use Rattle.cell_walk.proofs.next_cell.Reads as next-cell-reads
 use Rattle.list_cells.proofs.above_of.Reads as above-of-reads
 use Rattle.list_cells.proofs.against_of.Reads as against-of-reads
 use Rattle.list_cells.proofs.cell_ok.Reads as cell-ok-reads
+use Rattle.list_cells.proofs.ended_at.Reads as ended-at-reads
 use Rattle.list_cells.proofs.own_of.Reads as own-of-reads
 use Rattle.list_cells.proofs.shown_of.Reads as shown-of-reads
 use Rattle.parts.proofs.byte.Reads as byte-reads
@@ -33,14 +33,13 @@ use Rattle.parts.proofs.up_to.Reads as up-to-reads
 use Rattle.rows.proofs.cell_count.Reads as cell-count-reads
 
 abbrev Inv-loop : tie.InvT-loop
-Inv-loop rs cs s k ds f n end above own against shown from₀ fine₀ cells₀ changes₀ from fine cells changes =
+Inv-loop rs cs s k ds f n end above own against shown from₀ cells₀ changes₀ from cells changes =
     (cells + 1 ≤ end) × (end ≤ 64) × (n ≤ 6) × (end ≡ 2 ^ n)
-    × (allBelow cells (gatheredOn (labelOf f s) above own shown against ds n) ≡ true)
-    × (fine ≡ allBelow (cells + 1) (gatheredOn (labelOf f s) above own shown against ds n))
+    × (allBelow (cells + 1) (gatheredOn (labelOf f s) above own shown against ds n) ≡ true)
     × (changes ≡ changesUpTo cells) × Walked above cells from
 
 abbrev μ-loop : tie.MeasureT-loop
-μ-loop rs cs s k ds f n end above own against shown from₀ fine₀ cells₀ changes₀ from fine cells changes = end - cells
+μ-loop rs cs s k ds f n end above own against shown from₀ cells₀ changes₀ from cells changes = end - cells
 
 -- what is read before the loop
 abbrev found : tie.After-shown-of Inv-loop μ-loop → tie.After-cell-count Inv-loop μ-loop
@@ -68,11 +67,8 @@ told c m = let g = start c .args in let n = found c .before .up-to in let b = c 
 abbrev head : tie.After-next-cell Inv-loop μ-loop → tie.At-loop Inv-loop μ-loop
 head c = c .before .before .before .before
 
-more : (c : tie.After-next-cell Inv-loop μ-loop) → head c .loop .cells + 1 < found (head c .before) .cell-count .result % 256
-more c = so-ltb _ _ (and-r (head c .loop .fine) _ (c .before .before .before .loop-test .taken))
-
 counted : (c : tie.After-next-cell Inv-loop μ-loop) → head c .loop .changes + c .next-cell .result ≡ changesUpTo (head c .loop .cells + 1)
-counted c = ap (λ n. n + c .next-cell .result) (head c .loop .inv .6) ∙ c .next-cell .ensures .0
+counted c = ap (λ n. n + c .next-cell .result) (head c .loop .inv .5) ∙ c .next-cell .ensures .0
 
 here : (c : tie.After-cell-ok Inv-loop μ-loop) → let l = head (c .before .before .before .before) in
     c .cell-ok .result ≡ test (l .before) (l .loop .cells + 1)
@@ -80,7 +76,7 @@ here c = let m = c .before .before .before .before in let l = head m in let e = 
     cell-at (labelOf (g .f) (g .s .now)) (e .before .before .before .above-of .result) (e .before .before .own-of .result)
     (e .shown-of .result) (e .before .against-of .result) (g .ds .now) (found e .before .up-to .result)
     (l .loop .cells + 1) _ (c .before .cell-roles .result) _ (omega arith) (c .before .before .before .byte .ensures)
-    (c .before .cell-roles .ensures .1 _ _ (m .next-cell .ensures .1 .1 (l .loop .inv .7))) (c .cell-ok .ensures)
+    (c .before .cell-roles .ensures .1 _ _ (m .next-cell .ensures .1 .1 (l .loop .inv .6))) (c .cell-ok .ensures)
 
 up-to-requires : tie.Need-up-to-requires Inv-loop μ-loop
 up-to-requires c κs = search needs
@@ -111,9 +107,8 @@ loop-holds c = let b = found c in let n = b .before .up-to in let p = pow-pos (n
       omega (arith, b .cell-count .ensures .1, mod-eq-of-lt few),
       n .ensures .1,
       e,
-      all-none (test c),
-      sym (no-cell (labelOf (g .f) (g .s .now)) (c .before .before .before .above-of .result) (c .before .before .own-of .result)
-          (c .shown-of .result) (c .before .against-of .result) (g .ds .now) (n .result)),
+      no-cell (labelOf (g .f) (g .s .now)) (c .before .before .before .above-of .result) (c .before .before .own-of .result)
+          (c .shown-of .result) (c .before .against-of .result) (g .ds .now) (n .result),
       count-start,
       walk-start (c .before .before .before .above-of .result),
     )
@@ -125,8 +120,7 @@ next-cell-requires : tie.Need-next-cell-requires Inv-loop μ-loop
 next-cell-requires c κs = search needs
 
 add-changes : tie.Need-add-changes Inv-loop μ-loop
-add-changes c =
-    let few = few-changes (head c .loop .cells) _ _ (omega (arith, more c)) (head c .loop .inv .6) (c .next-cell .ensures .0) in
+add-changes c = let few = few-changes (head c .loop .cells) _ _ (omega arith) (head c .loop .inv .5) (c .next-cell .ensures .0) in
     omega arith
 
 add-cells : tie.Need-add-cells Inv-loop μ-loop
@@ -150,33 +144,42 @@ cell-roles-requires c κs = search needs
 cell-ok-requires : tie.Need-cell-ok-requires Inv-loop μ-loop
 cell-ok-requires c κs = search needs
 
+ended-at-requires : tie.Need-ended-at-requires Inv-loop μ-loop
+ended-at-requires c κs = search needs
+
+returns : tie.Need-returns Inv-loop μ-loop
+returns c = let m = c .before .before .before .before .before .before in let l = head m in let v = l .loop .inv in
+    let t = test (l .before) in let e = c .ended-at .ensures in
+    tally-as (rw (e .0, e .1, e .2) (record {
+      count = counted m;
+      before = v .4;
+      here = all-next t (l .loop .cells + 1) _ (v .4) (sym (not-true _ (c .before .if1 .taken)) ∙ here (c .before .before));
+      inside = omega arith;
+      whole = λ u. absurd (false≢true u);
+    })) _ _ (found (l .before) .before .up-to .ensures .0) (told (l .before))
+
 loop-less : tie.Need-loop-less Inv-loop μ-loop
 loop-less c = omega arith
 
 loop-again : tie.Need-loop-again Inv-loop μ-loop
-loop-again c = let m = c .before .before .before .before in let l = head m in let v = l .loop .inv in
-    let all = sym (v .5) ∙ and-l (l .loop .fine) _ (m .before .before .before .loop-test .taken) in (
-      omega (arith, more m),
-      v .1,
-      v .2,
-      v .3,
-      all,
-      all-next (test (l .before)) (l .loop .cells + 1) _ all (here c),
-      counted m,
-      m .next-cell .ensures .1 .1 (v .7),
-    )
+loop-again c = let m = c .before .before .before .before .before in let l = head m in let v = l .loop .inv in (
+  omega arith,
+  v .1,
+  v .2,
+  v .3,
+  all-more (test (l .before)) (l .loop .cells + 1) (v .4) (sym (here (c .before)) ∙ not-false _ (c .if1 .left)),
+  counted m,
+  m .next-cell .ensures .1 .1 (v .6),
+)
 
-returns : tie.Need-returns Inv-loop μ-loop
-returns c = let l = c .before in let v = l .loop .inv in
+returns-2 : tie.Need-returns-2 Inv-loop μ-loop
+returns-2 c = let l = c .before in let v = l .loop .inv in let t = test (l .before) in
     tally-as (record {
-      count = v .6;
-      before = v .4;
-      here = v .5;
+      count = v .5;
+      before = all-intro (l .loop .cells) t (λ i h. all-elim (l .loop .cells + 1) t (v .4) i (omega arith));
+      here = sym (v .4);
       inside = omega arith;
-      whole = λ u. elim (decLt (l .loop .cells + 1) (found (l .before) .cell-count .result % 256)) [
-        | yes h ↦ absurd (false≢true (sym (c .loop-test .left) ∙ so-and (l .loop .fine) _ u (ltb-so _ _ h)))
-        | no h ↦ omega arith
-      ];
+      whole = λ _. omega arith;
     }) _ _ (found (l .before) .before .up-to .ensures .0) (told (l .before))
 
 pub walk-cells-spec : {M : Type 1} → statement M
@@ -203,6 +206,8 @@ walk-cells-spec =
     byte-requires
     cell-roles-requires
     cell-ok-requires
+    ended-at-requires
+    returns
     loop-less
     loop-again
-    returns)
+    returns-2)
