@@ -47,8 +47,8 @@ pub record Walked (above : List ℕ) (c : ℕ) (from : List ℕ) : Type 0 where
   pub roles : (i : ℕ) → i < 7 → (t : ℕ) → has (getD from i 0) t ≡ rolesFrom above c i t
 
 -- ---- one step, to cell d
--- the masks of the rows that pass p are corrected: such a mask is the next one, with the row's own roles if it is in the cell;
--- all other masks are as they were
+-- the masks of the rows that pass p are corrected: such a mask is the next one, with the roles that the row gives if the cell is in
+-- the row; all other masks are as they were
 pub record CorrectedAt (above : List ℕ) (d : ℕ) (p : ℕ → Bool) (old new : List ℕ) : Type 0 where
   pub size : length new ≡ 7
   pub changed : (i : ℕ) → So (p i)

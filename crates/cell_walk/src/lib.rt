@@ -34,7 +34,7 @@ fn rows_changed(c: u8) -> u8
 }
 
 // From cell `c` to the next: of the masks `from` those of the rows that change are corrected, from the highest down. Answers how many.
-// (That the array has seven elements is the language's own; a contract has to say it.)
+// (That the array has seven elements no contract knows, so `masks` has it as a premise.)
 pub fn next_cell(from: &mut [u16; 7], above: &[u16; 6], c: u8) -> u8
     ensures count { λ r. ⌜ changesUpTo c + r ≡ changesUpTo (c + 1) ⌝ }
     ensures masks { λ r. ⌜ (length (now (from .entry)) ≡ 7

@@ -292,7 +292,7 @@ fn cell_ok(
     )
 }
 
-// What a walk over cells found: the cells that it came to, whether the last of them was fine, and how many rows came in or went out.
+// What a walk over cells found: whether all were fine, the cell that it came to, and how many rows came in or went out on the way.
 struct Walk {
     fine: bool,
     cells: u8,
