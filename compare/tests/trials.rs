@@ -141,7 +141,8 @@ fn p6_p7() {
     assert_eq!(check(&counted(8), &closing([1, 0])), refused(19, 1));
 }
 
-/// Nothing has at most 1 filler of role 0 with the name and at least 3 of the second role with it.
+/// The answer on a list for: nothing has at most 1 filler of role 0 with the name and at least 3 of
+/// the second role with it.
 /// A cell that is shut has the name by its own row and lacks it by the other row.
 fn two_rows(second: usize, parents: u16, cells: [u8; 3]) -> Answer {
     let named = |number, role| Concept::AtLeast {
@@ -179,7 +180,7 @@ fn cells_of_two_rows() {
     assert_eq!(two_rows(0, 0, [0, 0, OPEN]), Answer::Empty);
     assert_eq!(two_rows(0, 0, [0, OPEN, OPEN]), refused(19, 1));
     assert_eq!(two_rows(0, 0, [OPEN, 0, 0]), refused(18, 1));
-    // Row 1 has role 1, which is not included in role 0, or is, or includes it.
+    // Row 1 has role 1, which is not included in role 0, or is; cell 1, of row 0 alone, has not role 1.
     assert_eq!(two_rows(1, 0, [OPEN, 0, OPEN]), refused(18, 1));
     assert_eq!(two_rows(1, 1, [OPEN, 0, OPEN]), Answer::Empty);
     assert_eq!(two_rows(1, 1, [0, 0, OPEN]), refused(18, 1));

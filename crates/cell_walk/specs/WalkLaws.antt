@@ -18,7 +18,8 @@ use Rattle.logic.specs.Bounded.{allBelow, anyBelow, all-elim, all-intro, any-el
 use Rattle.logic.specs.Sums.{sumBelow}
 use Rattle.logic.specs.Sets.{has}
 use Rattle.logic.specs.SetLaws.{no-member, has-none, has-or}
-use Rattle.cell_walk.specs.Walks.{differs, changesTo, changesUpTo, rowGives, rolesIn, rolesFrom, Walked, CorrectedAt, Corrected, Tally}
+use Rattle.cell_walk.specs.Walks.{differs, changesTo, changesUpTo, rowGives, rolesIn, rolesFrom, Walked}
+use Rattle.cell_walk.specs.Walks.{CorrectedAt, Corrected, Tally}
 
 -- ---- the rows that change
 -- from cell c to the next the first n rows change, and no other
@@ -27,13 +28,14 @@ pub record FirstChange (c n : ℕ) : Type 0 where
   pub rows : (i : ℕ) → i < 6 → differs c (c + 1) i ≡ ltb i n
   pub count : changesUpTo c + n ≡ changesUpTo (c + 1)
 
-same : Bool → Bool → Bool
-same a b = cond a b (not b)
+-- just one of two tests passes, as `differs` asks of two cells
+abbrev apart : Bool → Bool → Bool
+apart a b = cond a (not b) b
 
-same-is : (a b : Bool) → So (same a b) → a ≡ b
-unfolding same
-same-is true b h = sym h
-same-is false b h = sym (so-false b (λ u. not-so b h u))
+not-apart : (a b : Bool) → apart a b ≡ false → a ≡ b
+not-apart true true e = refl
+not-apart true false e = e
+not-apart false b e = sym e
 
 -- the rows below z are in the cell, and z is not, or is the last
 abbrev pub lowestOut : ℕ → ℕ → Bool
@@ -41,21 +43,22 @@ lowestOut c z = allBelow z (has c) && (not (has c z) || eqb z 5)
 
 -- from cell c to the next just the rows up to z change
 upToRow : ℕ → ℕ → ℕ → Bool
-upToRow c z i = same (differs c (suc c) i) (ltb i (suc z))
+upToRow c z i = not (apart (differs c (suc c) i) (ltb i (suc z)))
 
 stepOk : ℕ → ℕ → Bool
 stepOk c z = lowestOut c z ⇒ (allBelow 6 (upToRow c z) && eqb (changesTo c (suc c)) (suc z))
 
 -- one computed test for all cells that a byte can tell
 steps-ok : allBelow 256 (λ c. allBelow 6 (stepOk c)) ≡ true
-unfolding allBelow stepOk upToRow same changesTo has sumBelow
+unfolding allBelow stepOk upToRow changesTo has sumBelow
 steps-ok = refl
 
 pub first-change : (c z : ℕ) → c < 256 → z < 6 → So (lowestOut c z) → FirstChange c (z + 1)
 unfolding stepOk upToRow changesUpTo
 first-change c z h k l = record {
   few = omega arith;
-  rows = λ i m. rw (add-one c, add-one z) (same-is _ _ (all-elim 6 (upToRow c z) (and-l _ _ ok) i m));
+  rows = λ i m. rw (add-one c, add-one z)
+      (not-apart _ _ (so-false _ (not-so _ (all-elim 6 (upToRow c z) (and-l _ _ ok) i m))));
   count = rw (add-one c, add-one z) (ap (λ m. changesUpTo c + m) (sym (so-eqb _ _ (and-r (allBelow 6 (upToRow c z)) _ ok))));
 }
   where
@@ -144,14 +147,9 @@ module _ (above : List ℕ) (t : ℕ) where
   unfolding rolesFrom
   from-stays c d i f = any-cong 6 _ _ (λ j m. at j m (decLt j i))
     where
-      same-row : (a b : Bool) → cond a (not b) b ≡ false → b ≡ a
-      same-row true true e = refl
-      same-row true false e = sym e
-      same-row false b e = e
-
       at : (j : ℕ) → j < 6 → Dec (j < i) → given d i j ≡ given c i j
       at j m (yes q) = rw (lt-leb i j q) refl
-      at j m (no q) = rw (same-row (has c j) (has d j) (f j (omega arith) m)) refl
+      at j m (no q) = rw (not-apart (has c j) (has d j) (f j (omega arith) m)) refl
 
 -- ---- the running value
 -- it starts at cell 0

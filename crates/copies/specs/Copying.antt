@@ -10,11 +10,10 @@ use native.Mathlib.Numerals.{add-one}
 use borrow.Author.Tests.{lt-ltb, le-ltb}
 use lib.Dec.{eqb, ltb}
 use lib.ListN.{length, drop}
-use Rattle.logic.specs.Tests.{so-false}
 use Rattle.logic.specs.Lists.{tabulate, length-tabulate, at-tabulate}
 use Rattle.logic.specs.Sums.{sumBelow, only, maxBelow, sum-front}
 use Rattle.logic.specs.Sets.{has}
-use Rattle.logic.specs.SetLaws.{no-member}
+use Rattle.logic.specs.SetLaws.{has-none}
 use Rattle.parts.specs.Numbers.{byteAt, num2, up-to-all}
 use Rattle.graph.specs.Graphs.{Edge, Node, edgesAt, total}
 use Rattle.graph.specs.Line.{copies, joins}
@@ -127,7 +126,7 @@ has-choice false d m n o r p q e g = g
 
 owner-tabulate : (es : List ℕ) (y r k i j : ℕ) (f : ℕ → Edge) → ((n : ℕ) → f n ≡ edgeIn es (i + n)) → has (ownerFrom es y k i j) r ≡ joins (tabulate k f) y j r
 unfolding ownerFrom joins tabulate
-owner-tabulate es y r zero i j f h = so-false (has 0 r) (no-member r)
+owner-tabulate es y r zero i j f h = has-none r
 owner-tabulate es y r (suc k) i j f h = rw first (has-choice (eqb (edgeIn es i .target) y) (ltb j (edgeIn es i .count)) _ _ _ r _ _
     (owner-tabulate es y r k (i + 1) (j - edgeIn es i .count) (λ n. f (suc n)) later) (owner-tabulate es y r k (i + 1) j (λ n. f (suc n)) later))
   where

@@ -18,7 +18,7 @@ use Rattle.description.specs.Descriptions.{entryOfFields}
 use Rattle.tables.specs.Tables.{fieldsAt}
 use Rattle.nodes.specs.NodeSteps.{entryCount}
 use Rattle.refutation.specs.Cells.{Row}
-use Rattle.cell_walk.specs.Walks.{rolesIn}
+use Rattle.cell_walk.specs.Walks.{rowGives, rolesIn}
 use Rattle.rows.specs.declared.Row as Held
 use Rattle.rows.specs.HeldRows.{given, heldAt, rowsHeld}
 use Rattle.list_cells.specs.CellSteps.{room, rowRole, roleOf, rowShows, everyShows, carriedAt, knownIn, cellFine}
@@ -70,7 +70,7 @@ module _ (a : List ℕ) (rows : List Held.Row) (k : ℕ) (few : k ≤ 6) (above 
         (w .1)) .1 (w .1, and-r (has c (w .0)) _ (w .2)))))
       where
         p : ℕ → Bool
-        p i = has c i && has (maskAt above i) t
+        p = rowGives above c t
 
   -- ---- what a cell shows
   module _ (rs cs : List ℕ) (N : ℕ) (shown : List Label) (against own : List ℕ)
@@ -88,7 +88,8 @@ module _ (a : List ℕ) (rows : List Held.Row) (k : ℕ) (few : k ≤ 6) (above 
     shown↔ i l h = (
       λ u. let w = only-has (ltb i k) _ l (subst (λ n. So (has n l)) (S .at i h) u) in
           let v = setOf↔ room (showsOwn cs a N on (row i)) l .0 (w .1) in (so-ltb i k (w .0), v .0, v .1),
-      λ w. subst (λ n. So (has n l)) (sym (S .at i h)) (rw (ltb-so i k (w .0)) (setOf↔ room (showsOwn cs a N on (row i)) l .1 (w .1, w .2))),
+      λ w. subst (λ n. So (has n l)) (sym (S .at i h))
+          (rw (ltb-so i k (w .0)) (setOf↔ room (showsOwn cs a N on (row i)) l .1 (w .1, w .2))),
     )
 
     against-at : (i : ℕ) → i < k → maskAt against i ≡ code (opposite (row i .qualifier))
@@ -96,7 +97,8 @@ module _ (a : List ℕ) (rows : List Held.Row) (k : ℕ) (few : k ≤ 6) (above 
 
     own↔ : (i t : ℕ) → i < 6 → So (has (maskAt own i) t) ↔ ((i < k) × (row i .role < 16) × (t ≡ row i .role))
     own↔ i t h = (
-      λ u. let w = only-has (ltb i k) _ t (subst (λ n. So (has n t)) (O .at i h) u) in let v = only-has (ltb (row i .role) 16) _ t (w .1) in
+      λ u. let w = only-has (ltb i k) _ t (subst (λ n. So (has n t)) (O .at i h) u) in
+          let v = only-has (ltb (row i .role) 16) _ t (w .1) in
           (so-ltb i k (w .0), so-ltb (row i .role) 16 (v .0), single↔ (row i .role) t .0 (v .1)),
       λ w. subst (λ n. So (has n t)) (sym (O .at i h)) (rw (ltb-so i k (w .0), ltb-so (row i .role) 16 (w .1)) (single↔
           (row i .role) t .1 (w .2))),
@@ -107,7 +109,7 @@ module _ (a : List ℕ) (rows : List Held.Row) (k : ℕ) (few : k ≤ 6) (above 
       -- the roles of a cell fit into a mask
       role-fits : (t : ℕ) → So (among c t) → t < 16
       unfolding rolesIn
-      role-fits t u = let w = any-elim 6 (λ i. has c i && has (maskAt above i) t) (roles-gathered c t ∙ u) in
+      role-fits t u = let w = any-elim 6 (rowGives above c t) (roles-gathered c t ∙ u) in
           has-lt 16 (maskAt above (w .0)) t (words (w .0) (w .1)) (and-r (has c (w .0)) _ (w .2))
 
       -- what the rows of the arrays show, and what the rows and the entries show

@@ -111,9 +111,9 @@ module _ (num : ℕ → ℕ) (above own : List ℕ) (shown : List Label) (agains
   no-cell = refl
 
   -- the roles r of cell c are those that its rows give
-  pub cell-at : (c b r : ℕ) (t : Bool) → 1 ≤ c → b ≡ byteAt ds (1 + k + c) → ((t : ℕ) → has r t ≡ rolesIn above c t)
-      → t ≡ citedIn num (gatheredBy (has r) own shown against c) b → t ≡ gatheredOn num above own shown against ds k c
-  cell-at c b r t h e roles q = rw (lt-ltb 0 c h, ← e)
+  pub cell-at : (c b r : ℕ) (fine : Bool) → 1 ≤ c → b ≡ byteAt ds (1 + k + c) → ((t : ℕ) → has r t ≡ rolesIn above c t)
+      → fine ≡ citedIn num (gatheredBy (has r) own shown against c) b → fine ≡ gatheredOn num above own shown against ds k c
+  cell-at c b r fine h e roles q = rw (lt-ltb 0 c h, ← e)
       (q ∙ ap (λ (m : ℕ → Bool). citedIn num (gatheredBy m own shown against c) b) (fun-ext roles))
 
 module _ (num : ℕ → ℕ) (M b : ℕ) where

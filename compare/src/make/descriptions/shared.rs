@@ -7,7 +7,8 @@ use crate::paper::label::{opposite, Literal};
 use crate::random::Random;
 
 /// One to three roles above, of which each may be transitive, and two to four below, each in any
-/// of those above. So two rows have one role, or no more than an ancestor in common, or nothing.
+/// of those above and now and then in one another. So two rows have one role, or an ancestor in
+/// common, or nothing.
 pub(super) fn roles(r: &mut Random) -> Vec<Role> {
     let (above, below) = (r.range(1, 3), r.range(2, 4));
     let mut roles = Vec::new();
@@ -28,7 +29,7 @@ pub(super) fn roles(r: &mut Random) -> Vec<Role> {
     roles
 }
 
-/// What is joined in the root: a number, of counts alone, a role and a literal.
+/// What is joined in the root: a number (counts only), a role and a literal.
 #[derive(Clone, Copy)]
 enum Part {
     AtLeast(usize, usize, Literal),
