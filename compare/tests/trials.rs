@@ -180,9 +180,10 @@ fn cells_of_two_rows() {
     assert_eq!(two_rows(0, 0, [0, 0, OPEN]), Answer::Empty);
     assert_eq!(two_rows(0, 0, [0, OPEN, OPEN]), refused(19, 1));
     assert_eq!(two_rows(0, 0, [OPEN, 0, 0]), refused(18, 1));
-    // Row 1 has role 1, which is not included in role 0, or is; cell 1, of row 0 alone, has not role 1.
+    // Row 1 has role 1, which is not included in role 0, or is.
     assert_eq!(two_rows(1, 0, [OPEN, 0, OPEN]), refused(18, 1));
     assert_eq!(two_rows(1, 1, [OPEN, 0, OPEN]), Answer::Empty);
+    // Cell 1, of row 0 alone, has not role 1 even so.
     assert_eq!(two_rows(1, 1, [0, 0, OPEN]), refused(18, 1));
 }
 
