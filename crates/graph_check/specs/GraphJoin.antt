@@ -25,7 +25,8 @@ use Rattle.evidence.specs.Evidence.{recordCount, layoutOf, mostEdges, HeadOk, h
 use Rattle.evidence.specs.InPlace.{record-length, label-there, edges-there, edges-few}
 use Rattle.graph.specs.Graphs.{labelAt, nodeAt, edgesAt, wantedAt}
 use Rattle.graph.specs.GraphTests.{storedGraph, labelTest, bothTest, edgeTest, nodeRefusal, nodeForm, graphRefusal}
-use Rattle.nodes.specs.NodeSteps.{entryCount, labelCode, requiredSet, label-is, rootSet, root-is, bothAt, both-is}
+use Rattle.nodes.specs.NodeSteps.{labelCode, requiredSet, label-is, rootSet, root-is, bothAt, both-is}
+use Rattle.tables.specs.Tables.{entryCount}
 use Rattle.edges.specs.EdgeSteps.{edgesCode, edges-are}
 use Rattle.fillers.specs.FillerLaws.{everys-are, counts-are}
 use Rattle.graph_check.specs.GraphEvidence.{graphHead, formAt, graphTests}

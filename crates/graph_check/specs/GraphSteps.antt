@@ -13,7 +13,8 @@ use Rattle.parts.specs.Numbers.{upTo}
 use Rattle.parts.specs.Pairs.{lengthAt}
 use Rattle.evidence.specs.declared.Layout.{Layout}
 use Rattle.evidence.specs.Evidence.{recordCount, layoutFor, edgesPart, nodeFormTest, labelOf}
-use Rattle.nodes.specs.NodeSteps.{entryCount, labelCode, requiredSet, rootSet, bothAt}
+use Rattle.nodes.specs.NodeSteps.{labelCode, requiredSet, rootSet, bothAt}
+use Rattle.tables.specs.Tables.{entryCount}
 use Rattle.edges.specs.EdgeSteps.{edgesCode}
 use Rattle.fillers.specs.FillerSteps.{everysCode, countsCode}
 use Rattle.fillers.specs.Sources.{SourcesOf, everysWith, everys-with}

@@ -1,4 +1,6 @@
 pub mod Intake
+pub mod Everys
 pub mod Steps
 pub mod Order
+pub mod Opening
 pub mod Examples

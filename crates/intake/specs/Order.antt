@@ -1,22 +1,48 @@
 -- The answers of tests 2 to 8 in their order, for the code that stops at the first that fails.
 use Prim.Native.Nat.{ℕ}
-use mathlib.Core.Path.{_≡_, refl}
+use mathlib.Core.Path.{_≡_, refl, ap}
 use mathlib.Core.Bool.{true, false}
 use mathlib.Core.List.{List}
 use mathlib.Core.Option.{Option}
 use Rattle.logic.specs.Refusals.{Refusal}
+use Rattle.parts.specs.Numbers.{upTo}
+use Rattle.roles.specs.Ancestors.{roleCount}
+use Rattle.roles.specs.Records.{roleTable}
+use Rattle.roles.specs.declared.Role.{Role}
 use Rattle.answers.specs.declared.Tested.the-variants.{Fine, Refused}
 use Rattle.answers.specs.Answers.{refusalOf, wholly}
 use Rattle.intake.specs.Intake.{directoryTest, rolesPart, conceptsPart, queryPart, sizesTest, partsTest, bytesTest}
-use Rattle.intake.specs.Steps.{rolesCode, entriesCode, simplesCode, distinctsCode, everysCode, queryCode, laterTest, stepsTest}
+use Rattle.intake.specs.Steps.{rolesCode, entriesCode, simplesCode, distinctsCode, everysCode, queryCode, laterTest, stepsTest, steps-are}
 
-module _ (rs cs qs a : List ℕ) (complex : ℕ) where
-  -- what tests 5 to 8 answer, and all
+module _ (cs qs : List ℕ) (t : List Role) (n : ℕ) where
+  -- what tests 5 to 8 answer
   abbrev later : Option Refusal
-  later = wholly (laterTest rs cs qs a complex)
+  later = wholly (laterTest cs qs t n)
 
+  pub stops-5 : simplesCode cs t ≡ false → refusalOf (Refused 5 0) ≡ later
+  unfolding laterTest
+  stops-5 e = rw e refl
+
+  pub stops-6 : simplesCode cs t ≡ true → distinctsCode cs ≡ false → refusalOf (Refused 6 0) ≡ later
+  unfolding laterTest
+  stops-6 e5 e = rw (e5, e) refl
+
+  pub stops-7 : simplesCode cs t ≡ true → distinctsCode cs ≡ true → everysCode cs t n ≡ false → refusalOf (Refused 7 0) ≡ later
+  unfolding laterTest
+  stops-7 e5 e6 e = rw (e5, e6, e) refl
+
+  pub stops-8 : simplesCode cs t ≡ true → distinctsCode cs ≡ true → everysCode cs t n ≡ true → queryCode cs qs ≡ false → refusalOf (Refused 8 0) ≡ later
+  unfolding laterTest
+  stops-8 e5 e6 e7 e = rw (e5, e6, e7, e) refl
+
+  pub stops-nowhere : simplesCode cs t ≡ true → distinctsCode cs ≡ true → everysCode cs t n ≡ true → queryCode cs qs ≡ true → refusalOf Fine ≡ later
+  unfolding laterTest
+  stops-nowhere e5 e6 e7 e8 = rw (e5, e6, e7, e8) refl
+
+module _ (rs cs qs : List ℕ) (t : List Role) where
+  -- what tests 2 to 8 answer
   abbrev steps : Option Refusal
-  steps = wholly (stepsTest rs cs qs a complex)
+  steps = wholly (stepsTest rs cs qs t)
 
   pub stops-2 : sizesTest rs cs qs ≡ false → refusalOf (Refused 2 0) ≡ steps
   unfolding stepsTest
@@ -30,35 +56,16 @@ module _ (rs cs qs a : List ℕ) (complex : ℕ) where
   unfolding stepsTest
   stops-4 e2 e3 e = rw (e2, e3, e) refl
 
-  pub goes-on : sizesTest rs cs qs ≡ true → rolesCode rs ≡ true → entriesCode rs cs ≡ true → later ≡ steps
+  pub goes-on : sizesTest rs cs qs ≡ true → rolesCode rs ≡ true → entriesCode rs cs ≡ true → wholly (laterTest cs qs t (upTo 16 (roleCount rs))) ≡ steps
   unfolding stepsTest
   goes-on e2 e3 e4 = rw (e2, e3, e4) refl
-
-  pub stops-5 : simplesCode cs complex ≡ false → refusalOf (Refused 5 0) ≡ later
-  unfolding laterTest
-  stops-5 e = rw e refl
-
-  pub stops-6 : simplesCode cs complex ≡ true → distinctsCode cs ≡ false → refusalOf (Refused 6 0) ≡ later
-  unfolding laterTest
-  stops-6 e5 e = rw (e5, e) refl
-
-  pub stops-7 : simplesCode cs complex ≡ true → distinctsCode cs ≡ true → everysCode rs cs a ≡ false → refusalOf (Refused 7 0) ≡ later
-  unfolding laterTest
-  stops-7 e5 e6 e = rw (e5, e6, e) refl
-
-  pub stops-8 : simplesCode cs complex ≡ true → distinctsCode cs ≡ true → everysCode rs cs a ≡ true → queryCode cs qs ≡ false → refusalOf (Refused 8 0) ≡ later
-  unfolding laterTest
-  stops-8 e5 e6 e7 e = rw (e5, e6, e7, e) refl
-
-  pub stops-nowhere : simplesCode cs complex ≡ true → distinctsCode cs ≡ true → everysCode rs cs a ≡ true → queryCode cs qs ≡ true → refusalOf Fine ≡ later
-  unfolding laterTest
-  stops-nowhere e5 e6 e7 e8 = rw (e5, e6, e7, e8) refl
 
 -- 1, then the parts, each from its own offset
 pub stops-1 : (d : List ℕ) → directoryTest d ≡ false → refusalOf (Refused 1 0) ≡ wholly (bytesTest d)
 unfolding bytesTest
 stops-1 d e = rw e refl
 
-pub parts-on : (d rs cs qs : List ℕ) → directoryTest d ≡ true → rs ≡ rolesPart d → cs ≡ conceptsPart d → qs ≡ queryPart d → wholly (partsTest rs cs qs) ≡ wholly (bytesTest d)
+pub parts-on : (d rs cs qs : List ℕ) (t : List Role) → directoryTest d ≡ true → rs ≡ rolesPart d → cs ≡ conceptsPart d → qs ≡ queryPart d
+    → t ≡ roleTable (rolesPart d) → wholly (stepsTest rs cs qs t) ≡ wholly (bytesTest d)
 unfolding bytesTest
-parts-on d rs cs qs e p q r = rw (e, p, q, r) refl
+parts-on d rs cs qs t e p q r tab = rw (e, p, q, r) (ap wholly (steps-are (rolesPart d) (conceptsPart d) (queryPart d) t tab))

@@ -1,79 +1,71 @@
 -- The tests of single items as the code makes them, on bytes and masks, and that in their order they are the tests of the description.
-use Prim.Native.Nat.{ℕ, zero, suc, _+_, _-_, _*_, _/_, _≤_, _<_}
+use Prim.Native.Nat.{ℕ, zero, suc, _+_, _-_, _*_, _/_, _%_, _≤_, _<_}
 use mathlib.Core.Path.{_≡_, refl, sym, _∙_, ap, subst}
 use mathlib.Core.Bool.{Bool, true, false, not, _&&_}
 use mathlib.Core.List.{List}
 use mathlib.Core.Option.{Option, none}
 use native.Mathlib.Omega.{arith}
-use lib.Dec.{eqb, leb, ltb}
-use lib.ListN.{length, getD}
-use Rattle.logic.specs.Tests.{not-not, not-and, So, _⇒_, so-and, and-l, and-r, so-ltb, ltb-so, same-test, reading}
-use Rattle.logic.specs.Bounded.{allBelow, anyBelow, all-intro, all-elim, all-cong}
-use Rattle.logic.specs.Sets.{has, narrow}
-use Rattle.logic.specs.SetLaws.{has-setOf}
-use Rattle.logic.specs.Refusals.{unless, unless-then}
-use Rattle.parts.specs.Numbers.{byteAt, num2}
+use native.Mathlib.Nat.{mod-eq-of-lt}
 use native.Mathlib.Numerals.{add-one}
-use Rattle.description.specs.Literals.{Literal, literal, code, literal-code, entryOf, code-literal, code-entry}
-use Rattle.description.specs.Descriptions.{Entry, top, name, both, every, atLeast, Description, Fields, fieldsOf, entryFrom, entryOfFields, entry-back, sameFields, sameFields↔, sameEntry, sameEntry↔, compound, ifEvery, ifLeast}
-use Rattle.description.specs.Roles.{ancestor, simple}
+use lib.Dec.{eqb, leb, ltb}
+use lib.ListN.{length}
+use Rattle.logic.specs.Tests.{not-and, So, _⇒_, so-and, and-l, and-r, so-ltb, ltb-so, same-test}
+use Rattle.logic.specs.Bounded.{allBelow, all-intro, all-elim, all-cong}
+use Rattle.logic.specs.Sets.{narrow}
+use Rattle.logic.specs.Refusals.{unless, unless-then}
+use Rattle.parts.specs.Numbers.{byteAt, num2, upTo, up-to-all}
+use Rattle.description.specs.Literals.{Literal, literal, code, entryOf, code-literal, code-entry}
+use Rattle.description.specs.Descriptions.{Entry, top, name, both, every, atLeast, Description, Fields, fieldsOf, entryOfFields, entry-back, sameFields, sameFields↔, sameEntry, compound, ifEvery, ifLeast}
 use Rattle.description.specs.Acceptance.{entryTest, simpleTest, everyBelowTest, literalTest, entriesTest, simplesTest, distinctsTest, everysTest, queryTest, descriptionTests, entry↔, EntryOk}
+use Rattle.labels.specs.Labels.{mostEntries}
 use Rattle.tables.specs.Concepts.{fieldsStruct, conceptOf, conceptAt}
 use Rattle.tables.specs.declared.Concept.{Concept}
 use Rattle.tables.specs.declared.Concept.the-variants.{Top, Name, Both, Every, AtLeast}
 use Rattle.tables.specs.declared.Fields as Code
-use Rattle.tables.specs.Tables.{fieldsAt, describe, fieldsTest, fields↔}
-use Rattle.roles.specs.Ancestors.{complexMask, AncestorsOf, ancestor-masks, aboveTransitive, roleCount, not-simple}
+use Rattle.tables.specs.Tables.{entryCount, fieldsAt, describe, fieldsTest, fields↔}
+use Rattle.roles.specs.Ancestors.{roleCount}
+use Rattle.roles.specs.Records.{roleAt, roleTable, table-simple}
+use Rattle.roles.specs.declared.Role.{Role}
 use Rattle.intake.specs.Intake.{sizesTest, sizes-few, entryForm, partsTest}
+use Rattle.intake.specs.Everys.{belowIn, allThere, everyAt, every-there-is}
 
 -- 3, of one role: its transitive byte, and its parents
-abbrev pub roleAt : List ℕ → ℕ → Bool
-roleAt rs r = leb (byteAt rs (3 * r)) 1 && narrow (num2 rs (3 * r + 1)) (length rs / 3)
+abbrev pub roleKept : List ℕ → ℕ → Bool
+roleKept rs r = leb (byteAt rs (3 * r)) 1 && narrow (num2 rs (3 * r + 1)) (length rs / 3)
 
--- 5, of one entry, with the mask of roles that are not simple
-abbrev pub simpleAt : List ℕ → ℕ → ℕ → Bool
-simpleAt cs complex e = ifLeast (λ r l n. not (has complex r)) (entryOfFields (fieldsAt cs e))
+-- 5, of one entry, with the role records
+abbrev pub simpleAt : List ℕ → List Role → ℕ → Bool
+simpleAt cs t e = ifLeast (λ r l n. roleAt t (r % 16) .simple) (entryOfFields (fieldsAt cs e))
 
 -- 6, of entry f against the earlier e, by their fields
 abbrev pub twinAt : List ℕ → ℕ → ℕ → Bool
 twinAt cs f e = leb 2 (byteAt cs (6 * e)) && sameFields (fieldsAt cs e) (fieldsAt cs f)
 
--- 7, of "every R l", with the table of ancestors: one transitive role, and all
-abbrev pub everyThere : List ℕ → ℕ → ℕ → Bool
-everyThere cs t l = anyBelow (length cs / 6) (λ f. sameEntry (every t (literal l)) (entryOfFields (fieldsAt cs f)))
-
-abbrev pub everyBelowAt : List ℕ → List ℕ → List ℕ → ℕ → ℕ → ℕ → Bool
-everyBelowAt rs cs a r l t = eqb (byteAt rs (3 * t)) 1 ⇒ (has (getD a t 0) r ⇒ everyThere cs t l)
-
-abbrev pub everyAt : List ℕ → List ℕ → List ℕ → ℕ → Bool
-everyAt rs cs a e = ifEvery (λ r l. allBelow (length rs / 3) (everyBelowAt rs cs a r (code l))) (entryOfFields (fieldsAt cs e))
-
 -- each over the whole description
 abbrev pub rolesCode : List ℕ → Bool
-rolesCode rs = allBelow (length rs / 3) (roleAt rs)
+rolesCode rs = allBelow (length rs / 3) (roleKept rs)
 
 abbrev pub entriesCode : List ℕ → List ℕ → Bool
 entriesCode rs cs = allBelow (length cs / 6) (λ e. fieldsTest (length rs / 3) e (fieldsAt cs e))
 
-abbrev pub simplesCode : List ℕ → ℕ → Bool
-simplesCode cs complex = allBelow (length cs / 6) (simpleAt cs complex)
+abbrev pub simplesCode : List ℕ → List Role → Bool
+simplesCode cs t = allBelow (entryCount cs) (simpleAt cs t)
 
 abbrev pub distinctsCode : List ℕ → Bool
 distinctsCode cs = allBelow (length cs / 6) (λ f. allBelow f (λ e. not (twinAt cs f e)))
 
-abbrev pub everysCode : List ℕ → List ℕ → List ℕ → Bool
-everysCode rs cs a = allBelow (length cs / 6) (everyAt rs cs a)
+abbrev pub everysCode : List ℕ → List Role → ℕ → Bool
+everysCode cs t n = allBelow (entryCount cs) (everyAt cs t n)
 
 abbrev pub queryCode : List ℕ → List ℕ → Bool
 queryCode cs qs = allBelow (length qs) (λ i. ltb (byteAt qs i) (2 * (length cs / 6)))
 
--- in their order: 5 to 8, and all
-unfoldable pub laterTest : List ℕ → List ℕ → List ℕ → List ℕ → ℕ → Option ℕ
-laterTest rs cs qs a complex =
-    unless (simplesCode cs complex) 5 (unless (distinctsCode cs) 6 (unless (everysCode rs cs a) 7 (unless (queryCode cs qs) 8 none)))
+-- in their order: 5 to 8, with the first n records, and all
+unfoldable pub laterTest : List ℕ → List ℕ → List Role → ℕ → Option ℕ
+laterTest cs qs t n = unless (simplesCode cs t) 5 (unless (distinctsCode cs) 6 (unless (everysCode cs t n) 7 (unless (queryCode cs qs) 8 none)))
 
-unfoldable pub stepsTest : List ℕ → List ℕ → List ℕ → List ℕ → ℕ → Option ℕ
-stepsTest rs cs qs a complex = unless (sizesTest rs cs qs) 2 (unless (rolesCode rs) 3 (unless (entriesCode rs cs) 4 (laterTest rs cs qs a complex)))
+unfoldable pub stepsTest : List ℕ → List ℕ → List ℕ → List Role → Option ℕ
+stepsTest rs cs qs t = unless (sizesTest rs cs qs) 2 (unless (rolesCode rs) 3 (unless (entriesCode rs cs) 4 (laterTest cs qs t (upTo 16 (roleCount rs)))))
 
 -- ---- each is the test of the description
 -- 4: the fields test is "of the form of an entry, and that entry keeps its rule"
@@ -97,33 +89,28 @@ compound-kind (every r l) = refl
 compound-kind (atLeast r l n) = refl
 
 -- where sizes are kept and every entry is of the form and keeps its rule
-module _ (rs cs qs a : List ℕ) (few : length rs / 3 ≤ 16) (anc : AncestorsOf rs a) where
+module _ (rs cs qs : List ℕ) (t : List Role) (tab : t ≡ roleTable rs) (few : length rs / 3 ≤ 16) (small : length cs / 6 ≤ mostEntries) where
   abbrev D : Description
   D = describe rs cs qs
 
   abbrev n : ℕ
   n = length cs / 6
 
-  simple-is : (e : ℕ) (x : Entry) → EntryOk D e x → ifLeast (λ r l k. not (has (complexMask D) r)) x ≡ simpleTest D x
+  pub simple-is : (e : ℕ) (x : Entry) → EntryOk D e x → ifLeast (λ r l k. roleAt t (r % 16) .simple) x ≡ simpleTest D x
   unfolding ifLeast
-  simple-is e (atLeast r l k) o = ap not (has-setOf 16 (λ s. not (simple D s)) r (omega (arith, o .0 .0))) ∙ not-not (simple D r)
+  simple-is e (atLeast r l k) o = let h : r < 16 = omega (arith, o .0 .0) in ap (λ i. roleAt t i .simple) (mod-eq-of-lt h) ∙ table-simple rs t tab cs qs few r h
   simple-is e top o = refl
   simple-is e name o = refl
   simple-is e (both c d) o = refl
   simple-is e (every r l) o = refl
 
-  below-is : (r t : ℕ) (l : Literal) → r < 16 → t < length rs / 3
-      → everyBelowAt rs cs a r (code l) t ≡ (D .transitive t ⇒ (ancestor D t r ⇒ anyBelow n (λ f. sameEntry (every t l) (D .entry f))))
-  below-is r t l h ht = ap (λ b. D .transitive t ⇒ (b ⇒ everyThere cs t (code l))) (ap (λ m. has m r) (ancestor-masks rs cs qs a anc few t (omega arith)) ∙ has-setOf 16 (ancestor D t) r h)
-      ∙ ap (λ q. D .transitive t ⇒ (ancestor D t r ⇒ anyBelow n (λ f. sameEntry (every t q) (D .entry f)))) (literal-code l)
-
-  every-is : (e : ℕ) (x : Entry) → EntryOk D e x → ifEvery (λ r l. allBelow (length rs / 3) (everyBelowAt rs cs a r (code l))) x ≡ everyBelowTest D x
+  pub every-is : (e : ℕ) (x : Entry) → e < n → EntryOk D e x → ifEvery (λ r l. allThere cs (belowIn t (upTo 16 (roleCount rs)) r) (code l)) x ≡ everyBelowTest D x
   unfolding ifEvery
-  every-is e (every r l) o = all-cong (length rs / 3) _ _ (λ t ht. below-is r t l (omega (arith, o .0)) ht)
-  every-is e top o = refl
-  every-is e name o = refl
-  every-is e (both c d) o = refl
-  every-is e (atLeast r l k) o = refl
+  every-is e (every r l) h o = every-there-is rs cs qs t tab few small r l (omega (arith, o .0)) (let z = code-entry l e .1 (o .1) in omega (arith, z))
+  every-is e top h o = refl
+  every-is e name h o = refl
+  every-is e (both c d) h o = refl
+  every-is e (atLeast r l k) h o = refl
 
   module _ (ok : (e : ℕ) → e < n → So (fieldsTest (length rs / 3) e (fieldsAt cs e))) where
     entry-ok : (e : ℕ) → e < n → EntryOk D e (D .entry e)
@@ -168,17 +155,17 @@ in-order a3 true b4 a5 b5 a6 b6 a7 b7 a8 b8 e4 e e8 = let w = e refl in rw (← 
 in-order a3 false b4 a5 b5 a6 b6 a7 b7 a8 b8 e4 e e8 = rw (← e4) refl
 
 -- the code's tests in their order are the tests of the description
-pub steps-are : (rs cs qs a : List ℕ) (complex : ℕ) → AncestorsOf rs a → (length rs / 3 ≤ 16 → complex ≡ complexMask (describe rs cs qs))
-    → stepsTest rs cs qs a complex ≡ partsTest rs cs qs
+pub steps-are : (rs cs qs : List ℕ) (t : List Role) → t ≡ roleTable rs → stepsTest rs cs qs t ≡ partsTest rs cs qs
 unfolding laterTest stepsTest partsTest descriptionTests
-steps-are rs cs qs a complex anc t = unless-then (sizesTest rs cs qs) (sizesTest rs cs qs) 2 _ _ refl (λ s.
-    let z = sizes-few rs cs qs s in let few = z .0 in
-    in-order (rolesCode rs) (entriesCode rs cs) (entriesTest (entryForm cs) D) (simplesCode cs complex) (simplesTest D) (distinctsCode cs) (distinctsTest D)
-    (everysCode rs cs a) (everysTest D) (queryCode cs qs) (queryTest D)
-    (all-cong n _ _ (λ e _. entries-are rs cs qs e)) (λ p. let ok = all-elim n (λ e. fieldsTest (length rs / 3) e (fieldsAt cs e)) p in (
-      all-cong n _ _ (λ e h. ap (λ m. simpleAt cs m e) (t few) ∙ simple-is rs cs qs a few anc e _ (entry-ok rs cs qs a few anc ok e h)),
-      all-cong n _ _ (λ f hf. all-cong f _ _ (twin-is rs cs qs a few anc ok f hf)),
-      all-cong n _ _ (λ e h. every-is rs cs qs a few anc e _ (entry-ok rs cs qs a few anc ok e h)),
+steps-are rs cs qs t tab = unless-then (sizesTest rs cs qs) (sizesTest rs cs qs) 2 _ _ refl (λ s.
+    let z = sizes-few rs cs qs s in let few = z .0 in let small = z .2 in
+    in-order (rolesCode rs) (entriesCode rs cs) (entriesTest (entryForm cs) D) (simplesCode cs t) (simplesTest D) (distinctsCode cs) (distinctsTest D)
+    (everysCode cs t (upTo 16 (roleCount rs))) (everysTest D) (queryCode cs qs) (queryTest D)
+    (all-cong n _ _ (λ e _. entries-are rs cs qs e)) (λ p. let ok = all-elim n (λ e. fieldsTest (length rs / 3) e (fieldsAt cs e)) p in
+    let fine = entry-ok rs cs qs t tab few small ok in (
+      rw (up-to-all mostEntries n small) (all-cong n _ _ (λ e h. simple-is rs cs qs t tab few small e _ (fine e h))),
+      all-cong n _ _ (λ f hf. all-cong f _ _ (twin-is rs cs qs t tab few small ok f hf)),
+      rw (up-to-all mostEntries n small) (all-cong n _ _ (λ e h. every-is rs cs qs t tab few small e _ h (fine e h))),
     )) (query-is rs cs qs (z .1)))
   where
     D : Description
@@ -187,32 +174,7 @@ steps-are rs cs qs a complex anc t = unless-then (sizesTest rs cs qs) (sizesTest
     n : ℕ
     n = length cs / 6
 
--- with the roles that are not simple from the same table of ancestors
-abbrev pub tablesTest : List ℕ → List ℕ → List ℕ → List ℕ → Option ℕ
-tablesTest rs cs qs a = stepsTest rs cs qs a (aboveTransitive rs a (roleCount rs))
-
-pub tables-are : (rs cs qs a : List ℕ) → AncestorsOf rs a → tablesTest rs cs qs a ≡ partsTest rs cs qs
-tables-are rs cs qs a anc = steps-are rs cs qs a _ anc (λ few. not-simple rs a cs qs anc few)
-
 -- ---- laws for the code
--- "every T l", by kind, role and first literal
-pub is-every : (F : Fields) (t l : ℕ) → (eqb (F .kind) 3 && (eqb (F .role) t && eqb (F .first) l)) ≡ sameEntry (every t (literal l)) (entryOfFields F)
-unfolding entryFrom
-is-every F t l = same-test _ _
-    (λ h. let q = simp reading at h in sameEntry↔ (every t (literal l)) (entryOfFields F) .1 (rw (q .0, q .1 .0, q .1 .1) refl))
-    (λ h. go (F .kind) (F .role) (F .first) (F .second) (F .number) (sameEntry↔ (every t (literal l)) (entryOfFields F) .0 h))
-  where
-    kind : Entry → ℕ
-    kind x = fieldsOf x .kind
-
-    go : (k r a b n : ℕ) → every t (literal l) ≡ entryFrom k r a b n → So (eqb k 3 && (eqb r t && eqb a l))
-    go zero r a b n e = absurd (let z = ap kind e in omega arith)
-    go (suc zero) r a b n e = absurd (let z = ap kind e in omega arith)
-    go (suc (suc zero)) r a b n e = absurd (let z = ap kind e in omega arith)
-    go (suc (suc (suc zero))) r a b n e =
-        simp reading (refl, (sym (ap (λ x. fieldsOf x .role) e), sym (sym (code-literal l) ∙ ap (λ x. fieldsOf x .first) e ∙ code-literal a)))
-    go (suc (suc (suc (suc k)))) r a b n e = absurd (let z = ap kind e in omega arith)
-
 -- a test of the "at least" concepts, and of the "every" concepts, as the code's match has it
 abbrev pub ofLeast : (ℕ → Bool) → Concept → Bool
 ofLeast p Top = true
@@ -249,10 +211,6 @@ module _ (cs : List ℕ) where
   pub twin-read : (f e : ℕ) (a b : Code.Fields) → a ≡ fieldsStruct cs e → b ≡ fieldsStruct cs f
       → (leb 2 (a .kind) && (eqb (a .kind) (b .kind) && (eqb (a .role) (b .role) && (eqb (a .first) (b .first) && (eqb (a .second) (b .second) && eqb (a .number) (b .number)))))) ≡ twinAt cs f e
   twin-read f e a b p q = rw (p, q) refl
-
-  pub every-read : (f t l : ℕ) (g : Code.Fields) → g ≡ fieldsStruct cs f
-      → (eqb (g .kind) 3 && (eqb (g .role) t && eqb (g .first) l)) ≡ sameEntry (every t (literal l)) (entryOfFields (fieldsAt cs f))
-  every-read f t l g p = rw p (is-every (fieldsAt cs f) t l)
 
   -- a test of one kind, on the concept that the code has read
   pub least-read : (p : ℕ → Bool) (e : ℕ) (c : Concept) → c ≡ conceptAt cs e → ofLeast p c ≡ ifLeast (λ r l n. p r) (entryOfFields (fieldsAt cs e))

@@ -1,39 +1,42 @@
-// Tests 1 to 8 of a description.
+// Tests 1 to 8 of a description, and the records of its roles.
+pub mod everys;
+
 ghost use mathlib.Core.Path.{_≡_};
 ghost use mathlib.Core.Bool.{not, _&&_};
-ghost use Prim.Native.Nat.{_+_, _*_, _/_, _%_, _<_, _≤_};
+ghost use Prim.Native.Nat.{_+_, _*_, _/_, _%_, _≤_};
 ghost use lib.Dec.{eqb, leb, ltb};
 ghost use lib.ListN.{length};
-ghost use Rattle.logic.specs.Tests.{_⇒_};
 ghost use Rattle.logic.specs.Bounded.{allBelow};
-ghost use Rattle.logic.specs.Sets.{has, narrow};
-ghost use Rattle.parts.specs.Numbers.{byteAt, num2};
-ghost use Rattle.description.specs.Literals.{literal};
-ghost use Rattle.description.specs.Descriptions.{every, entryOfFields, sameEntry};
-ghost use Rattle.tables.specs.Tables.{fieldsAt, fieldsTest};
+ghost use Rattle.logic.specs.Sets.{narrow};
+ghost use Rattle.parts.specs.Numbers.{byteAt, num2, upTo};
+ghost use Rattle.tables.specs.Tables.{entryCount, fieldsAt, fieldsTest};
 ghost use Rattle.labels.specs.Labels.{mostEntries};
+ghost use Rattle.roles.specs.Records.{roleAt, roleTable};
 ghost use Rattle.answers.specs.Answers.{refusalOf, wholly};
-ghost use Rattle.intake.specs.Intake.{directoryTest, sizesTest, partsTest, bytesTest};
-ghost use Rattle.intake.specs.Steps.{laterTest, stepsTest, tablesTest, roleAt, simpleAt, twinAt, everyThere, everyBelowAt, everyAt};
+ghost use Rattle.intake.specs.Intake.{directoryTest, rolesPart, conceptsPart, queryPart, sizesTest, bytesTest};
+ghost use Rattle.intake.specs.Steps.{laterTest, stepsTest, roleKept, simpleAt, twinAt};
+ghost use Rattle.intake.specs.Opening.{Opens};
 use answers::Tested;
+use everys::everys_ok;
 use labels::MOST_ENTRIES;
 use parts::byte;
 use parts::mask2;
 use parts::pairs_fill;
 use parts::part;
-use roles::ancestors;
-use roles::complex_roles;
+use roles::Role;
 use roles::fits16;
-use roles::has16;
+use roles::role_count;
+use roles::role_table;
 use tables::Concept;
 use tables::EntryNo;
 use tables::RoleNo;
 use tables::concept_at;
+use tables::entry_count;
 use tables::entry_ok;
 use tables::fields_at;
 
 // Test 1.
-pub fn directory_ok(d: &[u8]) -> bool
+fn directory_ok(d: &[u8]) -> bool
     ensures { λ r. ⌜ r ≡ directoryTest (now (d .entry)) ⌝ }
 {
     pairs_fill(d, 0, 3, 12)
@@ -68,7 +71,7 @@ fn role_ok(rs: &[u8], r: RoleNo, n: usize) -> bool
 // Test 3.
 fn roles_ok(rs: &[u8]) -> bool
     requires { ⌜ length (now rs) / 3 ≤ 16 ⌝ }
-    ensures { λ r. ⌜ r ≡ allBelow (length (now (rs .entry)) / 3) (roleAt (now (rs .entry))) ⌝ }
+    ensures { λ r. ⌜ r ≡ allBelow (length (now (rs .entry)) / 3) (roleKept (now (rs .entry))) ⌝ }
 {
     let n = rs.len() / 3;
     let mut r: u8 = 0;
@@ -97,15 +100,23 @@ fn entries_ok(cs: &[u8], roles: usize) -> bool
     true
 }
 
-// Test 5 of one entry; `complex` are the roles that are not simple.
-fn simple_ok(cs: &[u8], e: EntryNo, complex: u16) -> bool
-    ensures { λ r. ⌜ r ≡ simpleAt (now (cs .entry)) complex (e .0) ⌝ }
+// Whether the record of role `r` says that it is simple.
+fn is_simple(t: [Role; 16], r: RoleNo) -> bool
+    ensures { λ q. ⌜ q ≡ roleAt t (r .0 % 16) .simple ⌝ }
+{
+    let x = t[(r.0 % 16) as usize];
+    x.simple
+}
+
+// Test 5 of one entry.
+pub fn simple_ok(cs: &[u8], e: EntryNo, t: [Role; 16]) -> bool
+    ensures { λ r. ⌜ r ≡ simpleAt (now (cs .entry)) t (e .0) ⌝ }
 {
     let c = concept_at(cs, e);
     match c {
         Concept::AtLeast(m) => {
             let role = m.role;
-            !has16(complex, role.0)
+            is_simple(t, role)
         }
         Concept::Top => true,
         Concept::Name => true,
@@ -115,14 +126,13 @@ fn simple_ok(cs: &[u8], e: EntryNo, complex: u16) -> bool
 }
 
 // Test 5.
-fn simples_ok(cs: &[u8], complex: u16) -> bool
-    requires { ⌜ length (now cs) / 6 ≤ mostEntries ⌝ }
-    ensures { λ r. ⌜ r ≡ allBelow (length (now (cs .entry)) / 6) (simpleAt (now (cs .entry)) complex) ⌝ }
+pub fn simples_ok(cs: &[u8], t: [Role; 16]) -> bool
+    ensures { λ r. ⌜ r ≡ allBelow (entryCount (now (cs .entry))) (simpleAt (now (cs .entry)) t) ⌝ }
 {
-    let n = cs.len() / 6;
+    let n = entry_count(cs);
     let mut e: u8 = 0;
-    while (e as usize) < n {
-        if !simple_ok(cs, EntryNo(e), complex) {
+    while e < n {
+        if !simple_ok(cs, EntryNo(e), t) {
             return false;
         }
         e += 1;
@@ -143,7 +153,7 @@ fn twin(cs: &[u8], f: EntryNo, e: EntryNo) -> bool
 }
 
 // Test 6 of entry `f`, against the earlier ones.
-fn distinct_ok(cs: &[u8], f: EntryNo) -> bool
+pub fn distinct_ok(cs: &[u8], f: EntryNo) -> bool
     ensures { λ r. ⌜ r ≡ allBelow (f .0) (λ e. not (twinAt (now (cs .entry)) (f .0) e)) ⌝ }
 {
     let n = f.0;
@@ -173,96 +183,6 @@ fn distincts_ok(cs: &[u8]) -> bool
     true
 }
 
-// Whether entry `f` is "every T l".
-fn is_every(cs: &[u8], f: EntryNo, t: RoleNo, l: u8) -> bool
-    ensures { λ r. ⌜ r ≡ sameEntry (every (t .0) (literal l)) (entryOfFields (fieldsAt (now (cs .entry)) (f .0))) ⌝ }
-{
-    let g = fields_at(cs, f);
-    (g.kind == 3) & ((g.role == t.0) & (g.first == l))
-}
-
-// Whether some entry, earlier or later, is "every T l".
-fn every_there(cs: &[u8], t: RoleNo, l: u8) -> bool
-    requires { ⌜ length (now cs) / 6 ≤ mostEntries ⌝ }
-    ensures { λ r. ⌜ r ≡ everyThere (now (cs .entry)) (t .0) l ⌝ }
-{
-    let n = cs.len() / 6;
-    let mut f: u8 = 0;
-    while (f as usize) < n {
-        if is_every(cs, EntryNo(f), t, l) {
-            return true;
-        }
-        f += 1;
-    }
-    false
-}
-
-// Whether role `t` is transitive.
-fn transitive(rs: &[u8], t: RoleNo) -> bool
-    ensures { λ r. ⌜ r ≡ eqb (byteAt (now (rs .entry)) (3 * t .0)) 1 ⌝ }
-{
-    byte(rs, 3 * (t.0 as usize)) == 1
-}
-
-// Test 7 of "every R l" for the role `t`, whose ancestors are `anc`.
-fn below_ok(rs: &[u8], cs: &[u8], anc: u16, r: RoleNo, l: u8, t: RoleNo) -> bool
-    requires { ⌜ length (now cs) / 6 ≤ mostEntries ⌝ }
-    ensures { λ q. ⌜ q ≡ (eqb (byteAt (now (rs .entry)) (3 * t .0)) 1 ⇒ (has anc (r .0) ⇒ everyThere (now (cs .entry)) (t .0) l)) ⌝ }
-{
-    if transitive(rs, t) & has16(anc, r.0) {
-        every_there(cs, t, l)
-    } else {
-        true
-    }
-}
-
-// Test 7 of "every R l" for all roles; `a` holds the ancestors of each.
-fn every_ok(rs: &[u8], cs: &[u8], a: [u16; 16], r: RoleNo, l: u8) -> bool
-    requires { ⌜ (length (now rs) / 3 ≤ 16) × (length (now cs) / 6 ≤ mostEntries) ⌝ }
-    ensures { λ q. ⌜ q ≡ allBelow (length (now (rs .entry)) / 3) (everyBelowAt (now (rs .entry)) (now (cs .entry)) a (r .0) l) ⌝ }
-{
-    let n = rs.len() / 3;
-    let mut t: u8 = 0;
-    while (t as usize) < n {
-        if !below_ok(rs, cs, a[t as usize], r, l, RoleNo(t)) {
-            return false;
-        }
-        t += 1;
-    }
-    true
-}
-
-// Test 7 of one entry.
-fn every_at(rs: &[u8], cs: &[u8], a: [u16; 16], e: EntryNo) -> bool
-    requires { ⌜ (length (now rs) / 3 ≤ 16) × (length (now cs) / 6 ≤ mostEntries) ⌝ }
-    ensures { λ q. ⌜ q ≡ everyAt (now (rs .entry)) (now (cs .entry)) a (e .0) ⌝ }
-{
-    let c = concept_at(cs, e);
-    match c {
-        Concept::Every(r, l) => every_ok(rs, cs, a, r, l),
-        Concept::Top => true,
-        Concept::Name => true,
-        Concept::Both(_, _) => true,
-        Concept::AtLeast(_) => true,
-    }
-}
-
-// Test 7.
-fn everys_ok(rs: &[u8], cs: &[u8], a: [u16; 16]) -> bool
-    requires { ⌜ (length (now rs) / 3 ≤ 16) × (length (now cs) / 6 ≤ mostEntries) ⌝ }
-    ensures { λ q. ⌜ q ≡ allBelow (length (now (cs .entry)) / 6) (everyAt (now (rs .entry)) (now (cs .entry)) a) ⌝ }
-{
-    let n = cs.len() / 6;
-    let mut e: u8 = 0;
-    while (e as usize) < n {
-        if !every_at(rs, cs, a, EntryNo(e)) {
-            return false;
-        }
-        e += 1;
-    }
-    true
-}
-
 // Whether byte `i` of the query is a literal below `limit`.
 fn literal_ok(qs: &[u8], i: usize, limit: usize) -> bool
     ensures { λ r. ⌜ r ≡ ltb (byteAt (now (qs .entry)) i) limit ⌝ }
@@ -285,18 +205,18 @@ fn query_ok(qs: &[u8], limit: usize) -> bool
     true
 }
 
-// Tests 5 to 8; `a` holds the ancestors of each role, `complex` the roles that are not simple.
-fn test_later(rs: &[u8], cs: &[u8], qs: &[u8], a: [u16; 16], complex: u16) -> Tested
-    requires { ⌜ (length (now rs) / 3 ≤ 16) × (length (now cs) / 6 ≤ mostEntries) ⌝ }
-    ensures { λ r. ⌜ refusalOf r ≡ wholly (laterTest (now (rs .entry)) (now (cs .entry)) (now (qs .entry)) a complex) ⌝ }
+// Tests 5 to 8, with the first `n` role records.
+fn test_later(cs: &[u8], qs: &[u8], t: [Role; 16], n: u8) -> Tested
+    requires { ⌜ length (now cs) / 6 ≤ mostEntries ⌝ }
+    ensures { λ r. ⌜ refusalOf r ≡ wholly (laterTest (now (cs .entry)) (now (qs .entry)) t (upTo 16 n)) ⌝ }
 {
-    if !simples_ok(cs, complex) {
+    if !simples_ok(cs, t) {
         return Tested::Refused(5, 0);
     }
     if !distincts_ok(cs) {
         return Tested::Refused(6, 0);
     }
-    if !everys_ok(rs, cs, a) {
+    if !everys_ok(cs, t, n) {
         return Tested::Refused(7, 0);
     }
     if !query_ok(qs, 2 * (cs.len() / 6)) {
@@ -305,9 +225,9 @@ fn test_later(rs: &[u8], cs: &[u8], qs: &[u8], a: [u16; 16], complex: u16) -> Te
     Tested::Fine
 }
 
-// Tests 2 to 8, with the same two tables.
-fn test_steps(rs: &[u8], cs: &[u8], qs: &[u8], a: [u16; 16], complex: u16) -> Tested
-    ensures { λ r. ⌜ refusalOf r ≡ wholly (stepsTest (now (rs .entry)) (now (cs .entry)) (now (qs .entry)) a complex) ⌝ }
+// Tests 2 to 8 of the three parts, with the records of the roles.
+fn test_parts(rs: &[u8], cs: &[u8], qs: &[u8], t: [Role; 16]) -> Tested
+    ensures { λ r. ⌜ refusalOf r ≡ wholly (stepsTest (now (rs .entry)) (now (cs .entry)) (now (qs .entry)) t) ⌝ }
 {
     if !sizes_ok(rs, cs, qs) {
         return Tested::Refused(2, 0);
@@ -318,29 +238,56 @@ fn test_steps(rs: &[u8], cs: &[u8], qs: &[u8], a: [u16; 16], complex: u16) -> Te
     if !entries_ok(cs, rs.len() / 3) {
         return Tested::Refused(4, 0);
     }
-    test_later(rs, cs, qs, a, complex)
+    test_later(cs, qs, t, role_count(rs))
 }
 
-// Tests 2 to 8 of the three parts, if `a` holds the ancestors of each role.
-pub fn test_tables(rs: &[u8], cs: &[u8], qs: &[u8], a: [u16; 16]) -> Tested
-    ensures { λ r. ⌜ refusalOf r ≡ wholly (tablesTest (now (rs .entry)) (now (cs .entry)) (now (qs .entry)) a) ⌝ }
+// Tests 1 to 8, with the same records.
+fn test_bytes(d: &[u8], t: [Role; 16]) -> Tested
+    ensures { λ r. ⌜ (t ≡ roleTable (rolesPart (now (d .entry))) → refusalOf r ≡ wholly (bytesTest (now (d .entry)))) ⌝ }
 {
-    test_steps(rs, cs, qs, a, complex_roles(rs, a))
+    if !directory_ok(d) {
+        return Tested::Refused(1, 0);
+    }
+    test_parts(part(d, 0, 0), part(d, 0, 1), part(d, 0, 2), t)
 }
 
-// Tests 2 to 8 of the three parts.
-fn test_parts(rs: &[u8], cs: &[u8], qs: &[u8]) -> Tested
-    ensures { λ r. ⌜ refusalOf r ≡ wholly (partsTest (now (rs .entry)) (now (cs .entry)) (now (qs .entry))) ⌝ }
+// A description that has been opened: what tests 1 to 8 say of it, the records of its roles, and how many roles it has.
+pub struct Opening {
+    pub tested: Tested,
+    pub roles: [Role; 16],
+    pub count: u8,
+}
+
+// Opens a description. Every entry point begins with this, and reads the records that it hands on.
+pub fn open_description(d: &[u8]) -> Opening
+    ensures { λ r. ⌜ Opens (now (d .entry)) r ⌝ }
 {
-    test_tables(rs, cs, qs, ancestors(rs))
+    let rs = part(d, 0, 0);
+    let t = role_table(rs);
+    Opening {
+        tested: test_bytes(d, t),
+        roles: t,
+        count: role_count(rs),
+    }
+}
+
+// The concepts and the question of a description.
+pub fn concepts_part(d: &[u8]) -> &[u8]
+    ensures { λ r. ⌜ now r ≡ conceptsPart (now (d .entry)) ⌝ }
+{
+    part(d, 0, 1)
+}
+
+pub fn query_part(d: &[u8]) -> &[u8]
+    ensures { λ r. ⌜ now r ≡ queryPart (now (d .entry)) ⌝ }
+{
+    part(d, 0, 2)
 }
 
 // Tests 1 to 8 of a description.
 pub fn test_description(d: &[u8]) -> Tested
     ensures { λ r. ⌜ refusalOf r ≡ wholly (bytesTest (now (d .entry))) ⌝ }
 {
-    if !directory_ok(d) {
-        return Tested::Refused(1, 0);
-    }
-    test_parts(part(d, 0, 0), part(d, 0, 1), part(d, 0, 2))
+    let o = open_description(d);
+    o.tested
 }

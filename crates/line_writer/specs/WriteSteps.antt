@@ -17,7 +17,7 @@ use Rattle.logic.specs.SetLaws.{setOf-lt}
 use Rattle.parts.specs.Numbers.{byteAt, num2, upTo}
 use Rattle.description.specs.Descriptions.{entryFrom, entryOfFields, isName}
 use Rattle.tables.specs.Tables.{fieldsAt}
-use Rattle.nodes.specs.NodeSteps.{entryCount}
+use Rattle.tables.specs.Tables.{entryCount}
 use Rattle.labels.specs.Labels.{mostEntries, wide, nameBytes}
 use Rattle.evidence.specs.declared.Layout.{Layout}
 use Rattle.evidence.specs.Evidence.{labelOf, edgesPart}

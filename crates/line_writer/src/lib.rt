@@ -29,12 +29,12 @@ use labels::Label;
 use labels::holds;
 use labels::name_bytes;
 use lines::MOST_ELEMENTS;
-use nodes::entry_count;
 use parts::byte;
 use parts::part;
 use parts::up_to;
 use roles::ancestors;
 use tables::EntryNo;
+use tables::entry_count;
 use words::put;
 
 // The two bytes of the mask `m` at `at`, high byte first.

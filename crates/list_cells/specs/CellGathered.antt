@@ -16,7 +16,7 @@ use Rattle.labels.specs.declared.Label.{Label}
 use Rattle.description.specs.Literals.{opposite, code}
 use Rattle.description.specs.Descriptions.{entryOfFields}
 use Rattle.tables.specs.Tables.{fieldsAt}
-use Rattle.nodes.specs.NodeSteps.{entryCount}
+use Rattle.tables.specs.Tables.{entryCount}
 use Rattle.refutation.specs.Cells.{Row}
 use Rattle.cell_walk.specs.Walks.{rowGives, rolesIn}
 use Rattle.rows.specs.declared.Row as Held

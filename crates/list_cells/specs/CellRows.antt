@@ -25,7 +25,7 @@ use Rattle.tables.specs.Concepts.{conceptAt}
 use Rattle.tables.specs.declared.Concept.{Concept}
 use Rattle.tables.specs.declared.Concept.the-variants.{Every}
 use Rattle.tables.specs.declared.RoleNo.{RoleNo}
-use Rattle.nodes.specs.NodeSteps.{entryCount}
+use Rattle.tables.specs.Tables.{entryCount}
 use Rattle.fillers.specs.FillerSteps.{carried}
 use Rattle.refutation.specs.Cells.{Row}
 use Rattle.refutation.specs.RecordTests.{ifCited}

@@ -27,7 +27,6 @@ use labels::join;
 use labels::lies_within;
 use labels::only;
 use labels::put;
-use nodes::entry_count;
 use nodes::opposite;
 use parts::byte;
 use parts::up_to;
@@ -39,6 +38,7 @@ use tables::Concept;
 use tables::EntryNo;
 use tables::RoleNo;
 use tables::concept_at;
+use tables::entry_count;
 
 // The label with the literal `l`, if that is asked.
 fn put_if(x: Label, l: u8, asked: bool) -> Label

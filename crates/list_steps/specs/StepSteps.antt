@@ -28,7 +28,8 @@ use Rattle.refutation.specs.RecordTests.{citeTest, stepTest}
 use Rattle.answers.specs.declared.Tested.the-variants.{Fine, Refused}
 use Rattle.answers.specs.Answers.{refusalOf}
 use Rattle.labels.specs.Labels.{mostEntries, mostLiterals}
-use Rattle.nodes.specs.NodeSteps.{opposed, entryCount}
+use Rattle.nodes.specs.NodeSteps.{opposed}
+use Rattle.tables.specs.Tables.{entryCount}
 use Rattle.cites.specs.Cites.{ofEntry, namedRefusal}
 use Rattle.rows.specs.HeldRows.{row-same}
 use Rattle.list_rows.specs.RowSteps.{countOf, rowsRefusal, half-is}

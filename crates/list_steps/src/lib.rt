@@ -32,12 +32,12 @@ use labels::below;
 use labels::holds;
 use list_form::step_form;
 use list_rows::test_rows;
-use nodes::entry_count;
 use nodes::opposite;
 use parts::byte;
 use tables::Concept;
 use tables::EntryNo;
 use tables::concept_at;
+use tables::entry_count;
 
 // Whether entry `e` is of the table.
 fn entry_in(cs: &[u8], e: EntryNo) -> bool

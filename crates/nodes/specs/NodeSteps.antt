@@ -28,10 +28,6 @@ abbrev pub opposed : ℕ → ℕ
 opposed l = code (opposite (literal l))
 
 -- ---- 11
--- the number of entries of the part cs, at most the most that a table has
-abbrev pub entryCount : List ℕ → ℕ
-entryCount cs = upTo mostEntries (length cs / 6)
-
 -- the set M with the first i rules put in
 unfoldable pub withRules : List ℕ → ℕ → ℕ → ℕ
 withRules qs zero M = M

@@ -5,7 +5,8 @@ ghost use Prim.Native.Nat.{_+_, _-_, _*_, _/_, _<_, _≤_};
 ghost use lib.ListN.{length};
 ghost use Rattle.logic.specs.Bounded.{allBelow};
 ghost use Rattle.labels.specs.Labels.{mostEntries, valueOf};
-ghost use Rattle.nodes.specs.NodeSteps.{opposed, entryCount, withRules, requiredSet, labelCode, rootSet, partsIn, bothAt};
+ghost use Rattle.nodes.specs.NodeSteps.{opposed, withRules, requiredSet, labelCode, rootSet, partsIn, bothAt};
+ghost use Rattle.tables.specs.Tables.{entryCount};
 use labels::Label;
 use labels::MOST_ENTRIES;
 use labels::below;
@@ -19,6 +20,7 @@ use parts::up_to;
 use tables::Concept;
 use tables::EntryNo;
 use tables::concept_at;
+use tables::entry_count;
 
 // The opposite of a literal.
 pub fn opposite(l: u8) -> u8
@@ -46,13 +48,6 @@ pub fn required(qs: &[u8], want: Label) -> Label
     ensures { λ r. ⌜ valueOf r ≡ requiredSet (now (qs .entry)) (valueOf want) ⌝ }
 {
     put(with_rules(qs, want), 0)
-}
-
-// The number of entries of the part `cs`, or the most that a table has if there are more.
-pub fn entry_count(cs: &[u8]) -> u8
-    ensures { λ r. ⌜ (r ≡ entryCount (now (cs .entry))) × (r ≤ mostEntries) ⌝ }
-{
-    up_to(MOST_ENTRIES, cs.len() / 6)
 }
 
 // What a plain question wants: the root.

@@ -1,15 +1,25 @@
-// The ancestors of each role, and the roles that are not simple.
+// The role records: each role with its transitive byte, its parents, its ancestors, and whether it is simple.
 ghost use mathlib.Core.Path.{_≡_};
-ghost use mathlib.Core.Bool.{cond};
+ghost use mathlib.Core.Bool.{cond, not};
 ghost use lib.Bits.{bitOr};
 ghost use lib.Dec.{eqb};
 ghost use Prim.Native.Nat.{ℕ, _+_, _*_, _/_, _<_, _≤_, _^_};
 ghost use lib.ListN.{length, getD};
 ghost use Rattle.logic.specs.Sets.{has, narrow};
 ghost use Rattle.roles.specs.Ancestors.{AncestorsOf, roleCount, passed, joined, aboveTransitive};
+ghost use Rattle.roles.specs.Records.{roleAt, recordWith, roleTable, ancestorsIn};
 use parts::byte;
 use parts::mask2;
 use parts::up_to;
+
+// A role in working memory: its two fields of the description, the roles that it is included in by any number of steps, itself among
+// them, and whether no transitive role is included in it.
+pub struct Role {
+    pub transitive: u8,
+    pub parents: u16,
+    pub ancestors: u16,
+    pub simple: bool,
+}
 
 // Whether the mask holds `i`.
 pub fn has16(x: u16, i: u8) -> bool
@@ -73,7 +83,7 @@ fn pass(a: [u16; 16], k: u8) -> [u16; 16]
 }
 
 // The number of roles of the part `rs`, or 16 if there are more.
-fn role_count(rs: &[u8]) -> u8
+pub fn role_count(rs: &[u8]) -> u8
     ensures { λ r. ⌜ (r ≡ roleCount (now (rs .entry))) × (r ≤ 16) ⌝ }
 {
     up_to(16, rs.len() / 3)
@@ -87,7 +97,7 @@ fn with_ancestors(x: u16, anc: u16, transitive: u8) -> u16
 }
 
 // The ancestors of each role of the part `rs`.
-pub fn ancestors(rs: &[u8]) -> [u16; 16]
+fn ancestors(rs: &[u8]) -> [u16; 16]
     ensures { λ r. ⌜ AncestorsOf (now (rs .entry)) r ⌝ }
 {
     let n = role_count(rs);
@@ -102,7 +112,7 @@ pub fn ancestors(rs: &[u8]) -> [u16; 16]
 }
 
 // The roles that are not simple, if `a` holds the ancestors of each role.
-pub fn complex_roles(rs: &[u8], a: [u16; 16]) -> u16
+fn complex_roles(rs: &[u8], a: [u16; 16]) -> u16
     ensures { λ r. ⌜ r ≡ aboveTransitive (now (rs .entry)) a (roleCount (now (rs .entry))) ⌝ }
 {
     let n = role_count(rs) as usize;
@@ -111,6 +121,69 @@ pub fn complex_roles(rs: &[u8], a: [u16; 16]) -> u16
     while t < n {
         out = with_ancestors(out, a[t], byte(rs, 3 * t));
         t += 1;
+    }
+    out
+}
+
+// The record of role `i`, with its ancestors `above` and the roles that are not simple.
+fn role_record(rs: &[u8], i: u8, above: u16, complex: u16) -> Role
+    ensures { λ r. ⌜ r ≡ recordWith (now (rs .entry)) complex i above ⌝ }
+{
+    let at = 3 * (i as usize);
+    Role {
+        transitive: byte(rs, at),
+        parents: mask2(rs, at + 1),
+        ancestors: above,
+        simple: !has16(complex, i),
+    }
+}
+
+// The records of the roles of the part `rs`.
+pub fn role_table(rs: &[u8]) -> [Role; 16]
+    ensures { λ r. ⌜ r ≡ roleTable (now (rs .entry)) ⌝ }
+{
+    let a = ancestors(rs);
+    let complex = complex_roles(rs, a);
+    let none = Role {
+        transitive: 0,
+        parents: 0,
+        ancestors: 0,
+        simple: false,
+    };
+    let mut out = [none; 16];
+    let mut i: u8 = 0;
+    while i < 16 {
+        out[i as usize] = role_record(rs, i, a[i as usize], complex);
+        i += 1;
+    }
+    out
+}
+
+// The mask `x`: what a call answers is known to have 16 bits, an element of an array is not.
+fn mask(x: u16) -> u16
+    ensures { λ r. ⌜ (r ≡ x) × (r < 65536) ⌝ }
+{
+    x
+}
+
+// The ancestors that record `i` holds.
+fn above_at(t: [Role; 16], i: u8) -> u16
+    requires { ⌜ i < 16 ⌝ }
+    ensures { λ r. ⌜ (r ≡ roleAt t i .ancestors) × (r < 65536) ⌝ }
+{
+    let x = t[i as usize];
+    mask(x.ancestors)
+}
+
+// The ancestors of each role, one mask a role: for loops over all of them.
+pub fn ancestors_of(t: [Role; 16]) -> [u16; 16]
+    ensures { λ r. ⌜ r ≡ ancestorsIn t ⌝ }
+{
+    let mut out: [u16; 16] = [0; 16];
+    let mut i: u8 = 0;
+    while i < 16 {
+        out[i as usize] = above_at(t, i);
+        i += 1;
     }
     out
 }

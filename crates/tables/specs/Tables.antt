@@ -8,10 +8,15 @@ use native.Mathlib.Omega.{arith}
 use lib.Dec.{eqb, leb, ltb}
 use lib.ListN.{length}
 use Rattle.logic.specs.Tests.{So, reading}
-use Rattle.parts.specs.Numbers.{byteAt, num2}
+use Rattle.parts.specs.Numbers.{byteAt, num2, upTo}
+use Rattle.labels.specs.Labels.{mostEntries}
 use Rattle.description.specs.Literals.{literal, entryOf, code-literal, code-entry}
 use Rattle.description.specs.Descriptions.{Entry, top, name, both, every, atLeast, Description, Fields, fieldsOf, entryOfFields}
 use Rattle.description.specs.Acceptance.{greatestNumber, EntryOk}
+
+-- the number of entries of the part cs, at most the most that a table has
+abbrev pub entryCount : List ℕ → ℕ
+entryCount cs = upTo mostEntries (length cs / 6)
 
 -- the fields of entry e
 abbrev pub fieldsAt : List ℕ → ℕ → Fields

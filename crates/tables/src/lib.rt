@@ -1,13 +1,16 @@
 // The tables of a description, read in place: the fields of an entry, their test, and the concept that they are.
 ghost use mathlib.Core.Path.{_≡_};
 ghost use mathlib.Core.Bool.{_&&_};
-ghost use Prim.Native.Nat.{_<_};
+ghost use Prim.Native.Nat.{_<_, _≤_};
 ghost use lib.Dec.{eqb, leb, ltb};
-ghost use Rattle.tables.specs.Tables.{fieldsAt, fieldsTest};
+ghost use Rattle.labels.specs.Labels.{mostEntries};
+ghost use Rattle.tables.specs.Tables.{entryCount, fieldsAt, fieldsTest};
 ghost use Rattle.description.specs.Literals.{literal};
 ghost use Rattle.tables.specs.Concepts.{fieldsStruct, fieldsIn, conceptAt, boundIn, fewerOf, complementOf, literalConcept, boundOf};
+use labels::MOST_ENTRIES;
 use parts::byte;
 use parts::read2;
+use parts::up_to;
 
 // The number of a role, and of an entry: never one for the other.
 pub struct RoleNo(pub u8);
@@ -49,6 +52,13 @@ pub struct Fields {
     pub first: u8,
     pub second: u8,
     pub number: usize,
+}
+
+// The number of entries of the part `cs`, or the most that a table has if there are more.
+pub fn entry_count(cs: &[u8]) -> u8
+    ensures { λ r. ⌜ (r ≡ entryCount (now (cs .entry))) × (r ≤ mostEntries) ⌝ }
+{
+    up_to(MOST_ENTRIES, cs.len() / 6)
 }
 
 // The fields of entry `e`; bytes past the end count as 0.
@@ -115,7 +125,7 @@ fn at_least_ok(f: Fields, limit: usize, roles: usize) -> bool
 }
 
 // Test 4 of entry `e`, in a table of `roles` roles.
-fn fields_ok(f: Fields, e: EntryNo, roles: usize) -> bool
+pub fn fields_ok(f: Fields, e: EntryNo, roles: usize) -> bool
     ensures { λ r. ⌜ r ≡ fieldsTest roles (e .0) (fieldsIn f) ⌝ }
 {
     let kind = f.kind;

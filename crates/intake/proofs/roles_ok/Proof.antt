@@ -5,7 +5,7 @@ use native.Mathlib.Omega.{arith}
 use borrow.Author.Needs.{needs}
 use borrow.Author.Tests.{not-true, not-false}
 use Rattle.logic.specs.Bounded.{allBelow, all-none, all-stop, all-more, all-done}
-use Rattle.intake.specs.Steps.{roleAt}
+use Rattle.intake.specs.Steps.{roleKept}
 use Rattle.intake.proofs.roles_ok.Statement.{statement}
 use Rattle.intake.proofs.roles_ok.Tie as tie
 use Rattle.intake.proofs.roles_ok.Reads as reads
@@ -13,7 +13,7 @@ use Rattle.intake.proofs.roles_ok.Lts as lts
 use Rattle.intake.proofs.role_ok.Reads as role-ok-reads
 
 abbrev Inv-loop : tie.InvT-loop
-Inv-loop rs n r₀ r = (r ≤ n) × (n ≤ 16) × (allBelow r (roleAt rs) ≡ true)
+Inv-loop rs n r₀ r = (r ≤ n) × (n ≤ 16) × (allBelow r (roleKept rs) ≡ true)
 
 abbrev μ-loop : tie.MeasureT-loop
 μ-loop rs n r₀ r = n - r

@@ -1,35 +1,35 @@
-use Rattle.labels.specs.Labels.{mostEntries}
 use Prim.Native.Nat.{_-_, _≤_}
 use mathlib.Core.Path.{_≡_, _∙_, sym}
 use mathlib.Core.Bool.{true}
-use native.Mathlib.Omega.{arith}
-use borrow.Author.Needs.{needs}
 use borrow.Author.Tests.{not-true, not-false}
 use Rattle.logic.specs.Bounded.{allBelow, all-none, all-stop, all-more, all-done}
 use Rattle.intake.specs.Steps.{simpleAt}
+use native.Mathlib.Omega.{arith}
+use borrow.Author.Needs.{needs}
 use Rattle.intake.proofs.simples_ok.Statement.{statement}
 use Rattle.intake.proofs.simples_ok.Tie as tie
 use Rattle.intake.proofs.simples_ok.Reads as reads
 use Rattle.intake.proofs.simples_ok.Lts as lts
 use Rattle.intake.proofs.simple_ok.Reads as simple-ok-reads
+use Rattle.tables.proofs.entry_count.Reads as entry-count-reads
 
 abbrev Inv-loop : tie.InvT-loop
-Inv-loop cs complex n e₀ e = (e ≤ n) × (n ≤ mostEntries) × (allBelow e (simpleAt cs complex) ≡ true)
+Inv-loop cs t n e₀ e = (e ≤ n) × (allBelow e (simpleAt cs t) ≡ true)
 
 abbrev μ-loop : tie.MeasureT-loop
-μ-loop cs complex n e₀ e = n - e
+μ-loop cs t n e₀ e = n - e
+
+entry-count-requires : tie.Need-entry-count-requires Inv-loop μ-loop
+entry-count-requires c κs = search needs
 
 loop-holds : tie.Need-loop-holds Inv-loop μ-loop
-loop-holds c = (omega arith, omega arith, all-none _)
-
-cast-loop : tie.Need-cast-loop Inv-loop μ-loop
-cast-loop c = omega arith
+loop-holds c = (omega arith, all-none _)
 
 simple-ok-requires : tie.Need-simple-ok-requires Inv-loop μ-loop
 simple-ok-requires c κs = search needs
 
 returns : tie.Need-returns Inv-loop μ-loop
-returns c = sym (all-stop _ (c .before .before .before .loop .e) _ (omega arith) (sym (c .before .simple-ok .ensures) ∙ not-true _ (c .if1 .taken)))
+returns c = sym (all-stop _ (c .before .before .before .loop .e) _ (omega (arith, c .before .before .before .before .entry-count .ensures .0)) (sym (c .before .simple-ok .ensures) ∙ not-true _ (c .if1 .taken)))
 
 add-e : tie.Need-add-e Inv-loop μ-loop
 add-e c = omega arith
@@ -38,10 +38,10 @@ loop-less : tie.Need-loop-less Inv-loop μ-loop
 loop-less c = omega arith
 
 loop-again : tie.Need-loop-again Inv-loop μ-loop
-loop-again c = (omega arith, c .before .before .before .loop .inv .1, all-more _ (c .before .before .before .loop .e) (c .before .before .before .loop .inv .2) (sym (c .before .simple-ok .ensures) ∙ not-false _ (c .if1 .left)))
+loop-again c = (omega arith, all-more _ (c .before .before .before .loop .e) (c .before .before .before .loop .inv .1) (sym (c .before .simple-ok .ensures) ∙ not-false _ (c .if1 .left)))
 
 returns-2 : tie.Need-returns-2 Inv-loop μ-loop
-returns-2 c = sym (all-done _ (c .before .loop .e) _ (omega arith) (omega arith) (c .before .loop .inv .2))
+returns-2 c = sym (all-done _ (c .before .loop .e) _ (omega (arith, c .before .before .entry-count .ensures .0)) (omega (arith, c .before .before .entry-count .ensures .0)) (c .before .loop .inv .1))
 
 pub simples-ok-spec : {M : Type 1} → statement M
 simples-ok-spec =
@@ -49,8 +49,8 @@ simples-ok-spec =
     (tie.spec
     Inv-loop
     μ-loop
+    entry-count-requires
     loop-holds
-    cast-loop
     simple-ok-requires
     returns
     add-e

@@ -1,5 +1,6 @@
 use mathlib.Core.Path.{_∙_, sym}
 use borrow.Author.Tests.{not-true, not-false}
+use Rattle.parts.specs.Numbers.{upTo}
 use Rattle.intake.specs.Order.{stops-5, stops-6, stops-7, stops-8, stops-nowhere}
 use borrow.Author.Needs.{needs}
 use Rattle.intake.proofs.test_later.Statement.{statement}
@@ -7,7 +8,7 @@ use Rattle.intake.proofs.test_later.Tie as tie
 use Rattle.intake.proofs.test_later.Reads as reads
 use Rattle.intake.proofs.test_later.Lts as lts
 use Rattle.intake.proofs.distincts_ok.Reads as distincts-ok-reads
-use Rattle.intake.proofs.everys_ok.Reads as everys-ok-reads
+use Rattle.intake.proofs.everys.everys_ok.Reads as everys-ok-reads
 use Rattle.intake.proofs.query_ok.Reads as query-ok-reads
 use Rattle.intake.proofs.simples_ok.Reads as simples-ok-reads
 
@@ -15,19 +16,19 @@ simples-ok-requires : tie.Need-simples-ok-requires
 simples-ok-requires c κs = search needs
 
 returns : tie.Need-returns
-returns c = stops-5 (c .before .before .before .before .before .args .rs .now) (c .before .before .before .before .before .args .cs .now) (c .before .before .before .before .before .args .qs .now) (c .before .before .before .before .before .args .a) (c .before .before .before .before .before .args .complex) (sym (c .before .simples-ok .ensures) ∙ not-true _ (c .if1 .taken))
+returns c = stops-5 (c .before .before .before .before .args .cs .now) (c .before .before .before .before .args .qs .now) (c .before .before .before .before .args .t) (upTo 16 (c .before .before .before .before .args .n)) (sym (c .before .simples-ok .ensures) ∙ not-true _ (c .if1 .taken))
 
 distincts-ok-requires : tie.Need-distincts-ok-requires
 distincts-ok-requires c κs = search needs
 
 returns-2 : tie.Need-returns-2
-returns-2 c = stops-6 (c .before .before .before .before .before .before .before .args .rs .now) (c .before .before .before .before .before .before .before .args .cs .now) (c .before .before .before .before .before .before .before .args .qs .now) (c .before .before .before .before .before .before .before .args .a) (c .before .before .before .before .before .before .before .args .complex) (sym (c .before .before .before .simples-ok .ensures) ∙ not-false _ (c .before .before .if1 .left)) (sym (c .before .distincts-ok .ensures) ∙ not-true _ (c .if2 .taken))
+returns-2 c = stops-6 (c .before .before .before .before .before .before .args .cs .now) (c .before .before .before .before .before .before .args .qs .now) (c .before .before .before .before .before .before .args .t) (upTo 16 (c .before .before .before .before .before .before .args .n)) (sym (c .before .before .before .simples-ok .ensures) ∙ not-false _ (c .before .before .if1 .left)) (sym (c .before .distincts-ok .ensures) ∙ not-true _ (c .if2 .taken))
 
 everys-ok-requires : tie.Need-everys-ok-requires
 everys-ok-requires c κs = search needs
 
 returns-3 : tie.Need-returns-3
-returns-3 c = stops-7 (c .before .before .before .before .before .before .before .before .before .args .rs .now) (c .before .before .before .before .before .before .before .before .before .args .cs .now) (c .before .before .before .before .before .before .before .before .before .args .qs .now) (c .before .before .before .before .before .before .before .before .before .args .a) (c .before .before .before .before .before .before .before .before .before .args .complex) (sym (c .before .before .before .before .before .simples-ok .ensures) ∙ not-false _ (c .before .before .before .before .if1 .left)) (sym (c .before .before .before .distincts-ok .ensures) ∙ not-false _ (c .before .before .if2 .left)) (sym (c .before .everys-ok .ensures) ∙ not-true _ (c .if3 .taken))
+returns-3 c = stops-7 (c .before .before .before .before .before .before .before .before .args .cs .now) (c .before .before .before .before .before .before .before .before .args .qs .now) (c .before .before .before .before .before .before .before .before .args .t) (upTo 16 (c .before .before .before .before .before .before .before .before .args .n)) (sym (c .before .before .before .before .before .simples-ok .ensures) ∙ not-false _ (c .before .before .before .before .if1 .left)) (sym (c .before .before .before .distincts-ok .ensures) ∙ not-false _ (c .before .before .if2 .left)) (sym (c .before .everys-ok .ensures) ∙ not-true _ (c .if3 .taken))
 
 mul-query-ok : tie.Need-mul-query-ok
 mul-query-ok c = search needs
@@ -36,10 +37,10 @@ query-ok-requires : tie.Need-query-ok-requires
 query-ok-requires c κs = search needs
 
 returns-4 : tie.Need-returns-4
-returns-4 c = stops-8 (c .before .before .before .before .before .before .before .before .before .before .before .args .rs .now) (c .before .before .before .before .before .before .before .before .before .before .before .args .cs .now) (c .before .before .before .before .before .before .before .before .before .before .before .args .qs .now) (c .before .before .before .before .before .before .before .before .before .before .before .args .a) (c .before .before .before .before .before .before .before .before .before .before .before .args .complex) (sym (c .before .before .before .before .before .before .before .simples-ok .ensures) ∙ not-false _ (c .before .before .before .before .before .before .if1 .left)) (sym (c .before .before .before .before .before .distincts-ok .ensures) ∙ not-false _ (c .before .before .before .before .if2 .left)) (sym (c .before .before .before .everys-ok .ensures) ∙ not-false _ (c .before .before .if3 .left)) (sym (c .before .query-ok .ensures) ∙ not-true _ (c .if4 .taken))
+returns-4 c = stops-8 (c .before .before .before .before .before .before .before .before .before .before .args .cs .now) (c .before .before .before .before .before .before .before .before .before .before .args .qs .now) (c .before .before .before .before .before .before .before .before .before .before .args .t) (upTo 16 (c .before .before .before .before .before .before .before .before .before .before .args .n)) (sym (c .before .before .before .before .before .before .before .simples-ok .ensures) ∙ not-false _ (c .before .before .before .before .before .before .if1 .left)) (sym (c .before .before .before .before .before .distincts-ok .ensures) ∙ not-false _ (c .before .before .before .before .if2 .left)) (sym (c .before .before .before .everys-ok .ensures) ∙ not-false _ (c .before .before .if3 .left)) (sym (c .before .query-ok .ensures) ∙ not-true _ (c .if4 .taken))
 
 returns-5 : tie.Need-returns-5
-returns-5 c = stops-nowhere (c .before .before .before .before .before .before .before .before .before .before .before .args .rs .now) (c .before .before .before .before .before .before .before .before .before .before .before .args .cs .now) (c .before .before .before .before .before .before .before .before .before .before .before .args .qs .now) (c .before .before .before .before .before .before .before .before .before .before .before .args .a) (c .before .before .before .before .before .before .before .before .before .before .before .args .complex) (sym (c .before .before .before .before .before .before .before .simples-ok .ensures) ∙ not-false _ (c .before .before .before .before .before .before .if1 .left)) (sym (c .before .before .before .before .before .distincts-ok .ensures) ∙ not-false _ (c .before .before .before .before .if2 .left)) (sym (c .before .before .before .everys-ok .ensures) ∙ not-false _ (c .before .before .if3 .left)) (sym (c .before .query-ok .ensures) ∙ not-false _ (c .if4 .left))
+returns-5 c = stops-nowhere (c .before .before .before .before .before .before .before .before .before .before .args .cs .now) (c .before .before .before .before .before .before .before .before .before .before .args .qs .now) (c .before .before .before .before .before .before .before .before .before .before .args .t) (upTo 16 (c .before .before .before .before .before .before .before .before .before .before .args .n)) (sym (c .before .before .before .before .before .before .before .simples-ok .ensures) ∙ not-false _ (c .before .before .before .before .before .before .if1 .left)) (sym (c .before .before .before .before .before .distincts-ok .ensures) ∙ not-false _ (c .before .before .before .before .if2 .left)) (sym (c .before .before .before .everys-ok .ensures) ∙ not-false _ (c .before .before .if3 .left)) (sym (c .before .query-ok .ensures) ∙ not-false _ (c .if4 .left))
 
 pub test-later-spec : {M : Type 1} → statement M
 test-later-spec =

@@ -11,7 +11,7 @@ use Rattle.line_writer.proofs.name_mask.Tie as tie
 use Rattle.line_writer.proofs.name_mask.Reads as reads
 use Rattle.line_writer.proofs.name_mask.Lts as lts
 use Rattle.line_writer.proofs.name_in.Reads as name-in-reads
-use Rattle.nodes.proofs.entry_count.Reads as entry-count-reads
+use Rattle.tables.proofs.entry_count.Reads as entry-count-reads
 use Rattle.words.proofs.put.Reads as put-reads
 
 abbrev Inv-loop : tie.InvT-loop

@@ -14,7 +14,7 @@ use Rattle.list_steps.proofs.test_step.Lts as lts
 use Rattle.labels.proofs.below.Reads as below-reads
 use Rattle.list_form.proofs.step_form.Reads as step-form-reads
 use Rattle.list_steps.proofs.test_named.Reads as test-named-reads
-use Rattle.nodes.proofs.entry_count.Reads as entry-count-reads
+use Rattle.tables.proofs.entry_count.Reads as entry-count-reads
 
 step-form-requires : tie.Need-step-form-requires
 step-form-requires c κs = search needs

@@ -12,7 +12,7 @@ use Rattle.nodes.proofs.boths_ok.Tie as tie
 use Rattle.nodes.proofs.boths_ok.Reads as reads
 use Rattle.nodes.proofs.boths_ok.Lts as lts
 use Rattle.nodes.proofs.both_at.Reads as both-at-reads
-use Rattle.nodes.proofs.entry_count.Reads as entry-count-reads
+use Rattle.tables.proofs.entry_count.Reads as entry-count-reads
 
 abbrev Inv-loop : tie.InvT-loop
 Inv-loop cs x n e₀ e = (e ≤ n) × (n ≤ mostEntries) × (allBelow e (bothAt cs (valueOf x)) ≡ true)

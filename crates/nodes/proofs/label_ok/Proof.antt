@@ -8,7 +8,7 @@ use Rattle.nodes.proofs.label_ok.Lts as lts
 use Rattle.labels.proofs.below.Reads as below-reads
 use Rattle.labels.proofs.lies_within.Reads as lies-within-reads
 use Rattle.labels.proofs.consistent.Reads as consistent-reads
-use Rattle.nodes.proofs.entry_count.Reads as entry-count-reads
+use Rattle.tables.proofs.entry_count.Reads as entry-count-reads
 
 entry-count-requires : tie.Need-entry-count-requires
 entry-count-requires c κs = search needs

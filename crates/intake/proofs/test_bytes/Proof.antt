@@ -2,10 +2,10 @@ use mathlib.Core.Path.{_∙_, sym}
 use borrow.Author.Tests.{not-true, not-false}
 use Rattle.intake.specs.Order.{stops-1, parts-on}
 use borrow.Author.Needs.{needs}
-use Rattle.intake.proofs.test_description.Statement.{statement}
-use Rattle.intake.proofs.test_description.Tie as tie
-use Rattle.intake.proofs.test_description.Reads as reads
-use Rattle.intake.proofs.test_description.Lts as lts
+use Rattle.intake.proofs.test_bytes.Statement.{statement}
+use Rattle.intake.proofs.test_bytes.Tie as tie
+use Rattle.intake.proofs.test_bytes.Reads as reads
+use Rattle.intake.proofs.test_bytes.Lts as lts
 use Rattle.intake.proofs.directory_ok.Reads as directory-ok-reads
 use Rattle.intake.proofs.test_parts.Reads as test-parts-reads
 use Rattle.parts.proofs.part.Reads as part-reads
@@ -14,7 +14,7 @@ directory-ok-requires : tie.Need-directory-ok-requires
 directory-ok-requires c κs = search needs
 
 returns : tie.Need-returns
-returns c = stops-1 (c .before .before .before .args .d .now) (sym (c .before .directory-ok .ensures) ∙ not-true _ (c .if1 .taken))
+returns c = λ tab. stops-1 (c .before .before .before .args .d .now) (sym (c .before .directory-ok .ensures) ∙ not-true _ (c .if1 .taken))
 
 part-requires : tie.Need-part-requires
 part-requires c κs = search needs
@@ -29,10 +29,10 @@ test-parts-requires : tie.Need-test-parts-requires
 test-parts-requires c κs = search needs
 
 returns-2 : tie.Need-returns-2
-returns-2 c = c .test-parts .ensures ∙ parts-on (c .before .before .before .before .before .before .before .args .d .now) _ _ _ (sym (c .before .before .before .before .before .directory-ok .ensures) ∙ not-false _ (c .before .before .before .before .if1 .left)) (c .before .before .before .part .ensures) (c .before .before .part2 .ensures) (c .before .part3 .ensures)
+returns-2 c = λ tab. c .test-parts .ensures ∙ parts-on (c .before .before .before .before .before .before .before .args .d .now) _ _ _ (c .before .before .before .before .before .before .before .args .t) (sym (c .before .before .before .before .before .directory-ok .ensures) ∙ not-false _ (c .before .before .before .before .if1 .left)) (c .before .before .before .part .ensures) (c .before .before .part2 .ensures) (c .before .part3 .ensures) tab
 
-pub test-description-spec : {M : Type 1} → statement M
-test-description-spec =
+pub test-bytes-spec : {M : Type 1} → statement M
+test-bytes-spec =
     tie.close
     (tie.spec
     directory-ok-requires

@@ -1,0 +1,112 @@
+-- The role records in working memory (02, request 4): each role with its transitive byte and its parents, as the description has them, its
+-- ancestors, and whether it is simple.
+use Prim.Native.Nat.{ℕ, zero, suc, _+_, _*_, _/_, _≤_, _<_}
+use mathlib.Core.Path.{_≡_, refl, sym, _∙_, ap, ap₂}
+use mathlib.Core.Bool.{Bool, false, not, _&&_}
+use mathlib.Core.List.{List, [], _∷_, map}
+use native.Mathlib.Omega.{arith}
+use native.Mathlib.Decide.{decLt}
+use lib.Dec.{eqb}
+use lib.ListN.{length, getD, length-map}
+use lib.Seq.{ext-getD}
+use Rattle.logic.specs.Tests.{not-not}
+use Rattle.logic.specs.Bounded.{any-cong}
+use Rattle.logic.specs.Lists.{tabulate, length-tabulate, at-tabulate}
+use Rattle.logic.specs.Sets.{has, setOf}
+use Rattle.logic.specs.SetLaws.{has-setOf, setOf-cong}
+use Rattle.parts.specs.Numbers.{byteAt, num2, upTo, up-to-all, up-to-most}
+use Rattle.description.specs.Roles.{simple}
+use Rattle.tables.specs.Tables.{describe}
+use Rattle.roles.specs.Ancestors.{ancestorMask, AncestorsOf, roleCount, passed, aboveTransitive, ancestor-masks, not-simple}
+use Rattle.roles.specs.declared.Role.{Role}
+
+-- a record that is none, and record i of a table
+abbrev pub noRole : Role
+noRole = record { transitive = 0; parents = 0; ancestors = 0; simple = false }
+
+abbrev pub roleAt : List Role → ℕ → Role
+roleAt t i = getD t i noRole
+
+-- ---- the table of the part rs, for parts of every length
+-- the ancestors of each role
+abbrev pub masksOf : List ℕ → List ℕ
+masksOf rs = tabulate 16 (passed rs (roleCount rs))
+
+-- the roles that are not simple
+unfoldable pub complexIn : List ℕ → ℕ
+complexIn rs = aboveTransitive rs (masksOf rs) (roleCount rs)
+
+abbrev pub recordWith : List ℕ → ℕ → ℕ → ℕ → Role
+recordWith rs complex i above = record { transitive = byteAt rs (3 * i); parents = num2 rs (3 * i + 1); ancestors = above; simple = not (has complex i) }
+
+unfoldable pub roleRecord : List ℕ → ℕ → Role
+roleRecord rs i = recordWith rs (complexIn rs) i (passed rs (roleCount rs) i)
+
+unfoldable pub roleTable : List ℕ → List Role
+roleTable rs = tabulate 16 (roleRecord rs)
+
+-- ---- of at most 16 roles, the records are true: ancestors and simple are those of the description
+module _ (rs : List ℕ) (t : List Role) (tab : t ≡ roleTable rs) where
+  record-at : (i : ℕ) → i < 16 → roleAt t i ≡ roleRecord rs i
+  unfolding roleTable
+  record-at i h = ap (λ t. roleAt t i) tab ∙ at-tabulate 16 (roleRecord rs) noRole i h
+
+  pub table-bytes : (i : ℕ) → i < 16 → roleAt t i .transitive ≡ byteAt rs (3 * i)
+  unfolding roleRecord
+  table-bytes i h = ap (λ R. R .transitive) (record-at i h)
+
+  pub table-parents : (i : ℕ) → i < 16 → roleAt t i .parents ≡ num2 rs (3 * i + 1)
+  unfolding roleRecord
+  table-parents i h = ap (λ R. R .parents) (record-at i h)
+
+  module _ (cs qs : List ℕ) (few : length rs / 3 ≤ 16) (i : ℕ) (h : i < 16) where
+    own-masks : AncestorsOf rs (masksOf rs)
+    own-masks j k = at-tabulate 16 (passed rs (roleCount rs)) 0 j k
+
+    pub table-masks : roleAt t i .ancestors ≡ ancestorMask (describe rs cs qs) i
+    unfolding roleRecord
+    table-masks = ap (λ R. R .ancestors) (record-at i h) ∙ sym (own-masks i h) ∙ ancestor-masks rs cs qs (masksOf rs) own-masks few i h
+
+    pub table-simple : roleAt t i .simple ≡ simple (describe rs cs qs) i
+    unfolding roleRecord complexIn
+    table-simple = ap (λ R. R .simple) (record-at i h) ∙ ap (λ m. not (has m i)) (not-simple rs (masksOf rs) cs qs own-masks few)
+        ∙ ap not (has-setOf 16 (λ s. not (simple (describe rs cs qs) s)) i h) ∙ not-not (simple (describe rs cs qs) i)
+
+-- ---- the ancestors alone, one mask a role, for loops over all of them
+abbrev pub ancestorsIn : List Role → List ℕ
+ancestorsIn t = map (λ R. R .ancestors) t
+
+at-ancestors : (t : List Role) (i : ℕ) → getD (ancestorsIn t) i 0 ≡ roleAt t i .ancestors
+at-ancestors [] i = refl
+at-ancestors (x ∷ t) zero = refl
+at-ancestors (x ∷ t) (suc i) = at-ancestors t i
+
+pub table-ancestors : (rs : List ℕ) (t : List Role) → t ≡ roleTable rs → AncestorsOf rs (ancestorsIn t)
+unfolding roleRecord
+table-ancestors rs t e i h = at-ancestors t i ∙ ap (λ R. R .ancestors) (record-at rs t e i h)
+
+-- ---- laws for the code
+at-most : (most n : ℕ) → upTo most n ≤ most
+at-most most n = elim (decLt n most) [
+  | yes l ↦ (let z : n ≤ most = omega arith in omega (arith, up-to-all most n z))
+  | no l ↦ (let z : most ≤ n = omega arith in omega (arith, up-to-most most n z))
+]
+
+-- the roles that are not simple, from any table of ancestors
+pub complex-from : (rs a : List ℕ) (complex : ℕ) → AncestorsOf rs a → complex ≡ aboveTransitive rs a (roleCount rs) → complex ≡ complexIn rs
+unfolding complexIn
+complex-from rs a complex anc e = e ∙ setOf-cong 16 _ _ (λ s _. any-cong (roleCount rs) _ _ (λ i h. let k : i < 16 = omega (arith, at-most 16 (length rs / 3)) in
+    ap (λ m. eqb (byteAt rs (3 * i)) 1 && has m s) (anc i k ∙ sym (at-tabulate 16 (passed rs (roleCount rs)) 0 i k))))
+
+pub record-made : (rs a : List ℕ) (complex i : ℕ) (R : Role) → AncestorsOf rs a → complex ≡ complexIn rs → i < 16
+    → R ≡ recordWith rs complex i (getD a i 0) → R ≡ roleRecord rs i
+unfolding roleRecord
+record-made rs a complex i R anc e h q = q ∙ ap₂ (λ c m. recordWith rs c i m) e (anc i h)
+
+pub table-made : (rs : List ℕ) (t : List Role) → length t ≡ 16 → ((i : ℕ) → i < 16 → roleAt t i ≡ roleRecord rs i) → t ≡ roleTable rs
+unfolding roleTable
+table-made rs t long f = ext-getD noRole t (roleTable rs) (long ∙ sym (length-tabulate 16 (roleRecord rs)))
+    (λ i h. let k : i < 16 = omega (arith, long) in f i k ∙ sym (at-tabulate 16 (roleRecord rs) noRole i k))
+
+pub masks-made : (t : List Role) (out : List ℕ) → length t ≡ 16 → length out ≡ 16 → ((i : ℕ) → i < 16 → getD out i 0 ≡ roleAt t i .ancestors) → out ≡ ancestorsIn t
+masks-made t out e f g = ext-getD 0 out (ancestorsIn t) (f ∙ sym (length-map t (λ R. R .ancestors) ∙ e)) (λ i h. g i (omega (arith, f)) ∙ sym (at-ancestors t i))
