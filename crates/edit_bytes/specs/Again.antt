@@ -40,8 +40,10 @@ draftIn d = record {
 again : {A : Type 0} (k : ℕ) (write : A → List ℕ) (read : List ℕ → ℕ → A) (dflt : A) (s : List ℕ) (n : ℕ)
     → 1 ≤ k → length s ≡ k * n → ((x : A) → length (write x) ≡ k)
     → ((i : ℕ) → i < n → Stands s (k * i) (write (read s i))) → flatten (map write (tabulate n (read s))) ≡ s
-again k write read dflt s n pos long w h = stands-whole (flatten ws) (stands-flatten ws (omega arith) (λ i l. let m : i < n = omega (arith, many) in
-    rw (even i (omega arith), at i m, zero-add (k * i)) (h i m))) (sym (before-all ws) ∙ even (length ws) (omega arith) ∙ ap (λ m. k * m) many ∙ sym long)
+again k write read dflt s n pos long w h = stands-whole (flatten ws)
+    (stands-flatten ws (omega arith) (λ i l. let m : i < n = omega (arith, many) in
+    rw (even i (omega arith), at i m, zero-add (k * i)) (h i m)))
+    (sym (before-all ws) ∙ even (length ws) (omega arith) ∙ ap (λ m. k * m) many ∙ sym long)
   where
     ws : List (List ℕ)
     ws = map write (tabulate n (read s))
@@ -50,7 +52,8 @@ again k write read dflt s n pos long w h = stands-whole (flatten ws) (stands-fla
     many = length-map (tabulate n (read s)) write ∙ length-tabulate n (read s)
 
     at : (i : ℕ) → i < n → getD ws i [] ≡ write (read s i)
-    at i m = at-map write (tabulate n (read s)) dflt [] i (let z : i < length (tabulate n (read s)) = omega (arith, length-tabulate n (read s)) in z) ∙ ap write (at-tabulate n (read s) dflt i m)
+    at i m = at-map write (tabulate n (read s)) dflt [] i
+        (let z : i < length (tabulate n (read s)) = omega (arith, length-tabulate n (read s)) in z) ∙ ap write (at-tabulate n (read s) dflt i m)
 
     even : (i : ℕ) → i ≤ length ws → before ws i ≡ k * i
     even = before-even k ws [] (λ j g. ap length (at j (let z : j < n = omega (arith, many) in z)) ∙ w (read s j))
@@ -82,18 +85,22 @@ module _ (d : List ℕ) (A : AcceptedBytes d) (small : Small d) where
 
   roles-again : rolesOut T ≡ rs
   unfolding rolesOut
-  roles-again = again 3 roleBytes roleOf (record { transitive = 0; parents = 0 }) rs (length rs / 3) (omega arith) (omega (arith, A .roles)) (λ x. refl) (λ i h.
-      stands-more (byteAt rs (3 * i)) (two (num2 rs (3 * i + 1))) refl (two-bytes .again (part-small 0 (omega arith)) (omega (arith, A .roles))))
+  roles-again = again 3 roleBytes roleOf (record { transitive = 0; parents = 0 }) rs (length rs / 3) (omega arith) (omega (arith, A .roles))
+      (λ x. refl) (λ i h. stands-more (byteAt rs (3 * i)) (two (num2 rs (3 * i + 1))) refl
+      (two-bytes .again (part-small 0 (omega arith)) (omega (arith, A .roles))))
 
   concepts-again : conceptsOut T ≡ cs
   unfolding conceptsOut
-  concepts-again = again 6 entryBytes fieldsAt (fieldsOf top) cs (length cs / 6) (omega arith) (omega (arith, A .concepts)) (λ x. refl) (λ i h.
-      stands-append (byteAt cs (6 * i) ∷ byteAt cs (6 * i + 1) ∷ byteAt cs (6 * i + 2) ∷ byteAt cs (6 * i + 3) ∷ []) (two (num2 cs (6 * i + 4))) (four i h) (two-bytes .again (part-small 1 (omega arith)) (omega (arith, A .concepts))))
+  concepts-again = again 6 entryBytes fieldsAt (fieldsOf top) cs (length cs / 6) (omega arith) (omega (arith, A .concepts)) (λ x. refl)
+      (λ i h. stands-append (byteAt cs (6 * i) ∷ byteAt cs (6 * i + 1) ∷ byteAt cs (6 * i + 2) ∷ byteAt cs (6 * i + 3) ∷ [])
+      (two (num2 cs (6 * i + 4))) (four i h) (two-bytes .again (part-small 1 (omega arith)) (omega (arith, A .concepts))))
     where
-      four : (i : ℕ) → i < length cs / 6 → Stands cs (6 * i) (byteAt cs (6 * i) ∷ byteAt cs (6 * i + 1) ∷ byteAt cs (6 * i + 2) ∷ byteAt cs (6 * i + 3) ∷ [])
+      four : (i : ℕ) → i < length cs / 6 → Stands cs (6 * i)
+          (byteAt cs (6 * i) ∷ byteAt cs (6 * i + 1) ∷ byteAt cs (6 * i + 2) ∷ byteAt cs (6 * i + 3) ∷ [])
       four i h = record { inside = omega (arith, A .concepts); same = at }
         where
-          at : (j : ℕ) → j < 4 → byteAt cs (6 * i + j) ≡ byteAt (byteAt cs (6 * i) ∷ byteAt cs (6 * i + 1) ∷ byteAt cs (6 * i + 2) ∷ byteAt cs (6 * i + 3) ∷ []) j
+          at : (j : ℕ) → j < 4 → byteAt cs (6 * i + j)
+              ≡ byteAt (byteAt cs (6 * i) ∷ byteAt cs (6 * i + 1) ∷ byteAt cs (6 * i + 2) ∷ byteAt cs (6 * i + 3) ∷ []) j
           at zero l = ap (byteAt cs) (let z : 6 * i + 0 ≡ 6 * i = omega arith in z)
           at (suc zero) l = refl
           at (suc (suc zero)) l = refl
@@ -105,7 +112,9 @@ module _ (d : List ℕ) (A : AcceptedBytes d) (small : Small d) where
     where
       at : (i : ℕ) → i < length (queryOut T) → byteAt (queryOut T) i ≡ byteAt qs i
       at zero h = refl
-      at (suc i) h = at-tabulate (length qs - 1) (λ i. byteAt qs (i + 1)) 0 i (omega (arith, length-tabulate (length qs - 1) (λ i. byteAt qs (i + 1)))) ∙ ap (byteAt qs) (let z : i + 1 ≡ suc i = omega arith in z)
+      at (suc i) h = at-tabulate (length qs - 1) (λ i. byteAt qs (i + 1)) 0 i
+          (omega (arith, length-tabulate (length qs - 1) (λ i. byteAt qs (i + 1))))
+          ∙ ap (byteAt qs) (let z : i + 1 ≡ suc i = omega arith in z)
 
   -- the pairs and the parts stand one after another, and are the whole
   pair-again : (i : ℕ) → i < 3 → (at : ℕ) → offsetAt d 0 i ≡ at → Stands d (0 + 4 * i) (pair at (partAt d 0 i))
@@ -115,8 +124,9 @@ module _ (d : List ℕ) (A : AcceptedBytes d) (small : Small d) where
   -- so what is read off it is written out as it was
   pub out-again : outBytes (draftIn d) ≡ d
   unfolding outBytes
-  out-again = ap (λ a. withPairs a (conceptsOut T) (queryOut T)) roles-again ∙ ap (λ b. withPairs rs b (queryOut T)) concepts-again ∙ ap (withPairs rs cs) query-again
-      ∙ stands-whole (withPairs rs cs qs) all-there (omega (arith, length-append rs (cs ++ qs), length-append cs qs, o0, o1, o2, l0, l1, l2, A .directory .1 .1))
+  out-again = ap (λ a. withPairs a (conceptsOut T) (queryOut T)) roles-again ∙ ap (λ b. withPairs rs b (queryOut T)) concepts-again
+      ∙ ap (withPairs rs cs) query-again
+      ∙ stands-whole (withPairs rs cs qs) all-there long
     where
       l0 : length rs ≡ lengthAt d 0 0
       l0 = part-long 0 (omega arith)
@@ -136,9 +146,13 @@ module _ (d : List ℕ) (A : AcceptedBytes d) (small : Small d) where
       o2 : offsetAt d 0 2 ≡ 12 + length rs + length cs
       o2 = A .directory .1 .0 2 (omega arith) ∙ (omega (arith, o1, l1))
 
+      long : length (withPairs rs cs qs) ≡ length d
+      long = omega (arith, length-append rs (cs ++ qs), length-append cs qs, o0, o1, o2, l0, l1, l2, A .directory .1 .1)
+
       parts-there : Stands d 12 (rs ++ (cs ++ qs))
       parts-there = stands-append rs (cs ++ qs) (subst (λ k. Stands d k rs) o0 (part-there 0 (omega arith)))
-          (stands-append cs qs (subst (λ k. Stands d k cs) o1 (part-there 1 (omega arith))) (subst (λ k. Stands d k qs) o2 (part-there 2 (omega arith))))
+          (stands-append cs qs (subst (λ k. Stands d k cs) o1 (part-there 1 (omega arith)))
+          (subst (λ k. Stands d k qs) o2 (part-there 2 (omega arith))))
 
       all-there : Stands d 0 (withPairs rs cs qs)
       all-there = stands-append (pair 12 rs) _ (pair-again 0 (omega arith) 12 o0)
@@ -146,7 +160,8 @@ module _ (d : List ℕ) (A : AcceptedBytes d) (small : Small d) where
           (stands-append (pair (12 + length rs + length cs) qs) _ (pair-again 2 (omega arith) (12 + length rs + length cs) o2) parts-there))
 
   -- ---- and it is made
-  sizes : (1 ≤ described d .roles) × (described d .roles ≤ mostRoles) × (1 ≤ described d .entries) × (described d .entries ≤ mostEntries) × (described d .rules ≤ mostRules)
+  sizes : (1 ≤ described d .roles) × (described d .roles ≤ mostRoles) × (1 ≤ described d .entries) × (described d .entries ≤ mostEntries)
+      × (described d .rules ≤ mostRules)
   sizes = accepted-sizes d A
 
   few : Few (draftIn d)

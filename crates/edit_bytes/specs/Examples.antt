@@ -70,7 +70,8 @@ trials =
     -- 22 at 21 bytes and at none, written at 22 bytes, and at 24: the last two stay
     trial smallest 21 ∷ trial smallest 0 ∷ trial smallest 22 ∷ trial smallest 24
     -- 2: no role, no entry, no root, nothing; 2 before 22
-    ∷ trial (draft [] (top ∷ []) (some 0)) 30 ∷ trial (draft (transitive ∷ []) [] (some 0)) 30 ∷ trial (draft (transitive ∷ []) (top ∷ []) none) 30
+    ∷ trial (draft [] (top ∷ []) (some 0)) 30 ∷ trial (draft (transitive ∷ []) [] (some 0)) 30
+    ∷ trial (draft (transitive ∷ []) (top ∷ []) none) 30
     ∷ trial (draft [] [] none) 30 ∷ trial (draft (transitive ∷ []) (top ∷ []) none) 0
     -- the order, and numbers with the high byte first
     ∷ trial ordered 33

@@ -1,4 +1,5 @@
--- What the editor writes out (02, job 4): "exactly what was put in, in that order and with three pairs"; what it answers, and all bytes of the buffer.
+-- What the editor writes out (02, job 4): "exactly what was put in, in that order and with three pairs"; what it answers, and all bytes of
+-- the buffer.
 use Prim.Native.Nat.{ℕ, _+_}
 use mathlib.Core.Bool.{Bool, _&&_}
 use mathlib.Core.List.{List, _∷_, _++_, map, flatten}

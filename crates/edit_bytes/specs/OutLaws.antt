@@ -38,7 +38,8 @@ module _ {A : Type 0} (k : ℕ) (write : A → List ℕ) (long : (x : A) → len
   even i h = ap length (at-map write xs dflt [] i (rw (length-map xs write) at h)) ∙ long (getD xs i dflt)
 
   pub records-long : length (flatten pieces) ≡ k * length xs
-  records-long = sym (before-all pieces) ∙ before-even k pieces [] even (length pieces) (omega arith) ∙ ap (λ n. k * n) (length-map xs write)
+  records-long = sym (before-all pieces) ∙ before-even k pieces [] even (length pieces) (omega arith)
+      ∙ ap (λ n. k * n) (length-map xs write)
 
   pub record-there : (i : ℕ) → i < length xs → Stands (flatten pieces) (k * i) (write (getD xs i dflt))
   record-there i h = rw (← before-even k pieces [] even i (omega (arith, length-map xs write)), ← at-map write xs dflt [] i h)
@@ -62,11 +63,13 @@ module _ (T : Draft) where
 
   -- ---- the pieces, as they are laid one behind the other
   abbrev pub outPieces : List (List ℕ)
-  outPieces = two 12 ∷ two (length rs) ∷ two (12 + length rs) ∷ two (length cs) ∷ two (12 + length rs + length cs) ∷ two (length qs) ∷ rs ∷ cs ∷ qs ∷ []
+  outPieces = two 12 ∷ two (length rs) ∷ two (12 + length rs) ∷ two (length cs) ∷ two (12 + length rs + length cs) ∷ two (length qs)
+      ∷ rs ∷ cs ∷ qs ∷ []
 
   pub out-pieces : flatten outPieces ≡ out
   unfolding outBytes flatten
-  out-pieces = ap (λ q. pair 12 rs ++ (pair (12 + length rs) cs ++ (pair (12 + length rs + length cs) qs ++ (rs ++ (cs ++ q))))) (append-nil qs)
+  out-pieces = ap (λ q. pair 12 rs ++ (pair (12 + length rs) cs ++ (pair (12 + length rs + length cs) qs ++ (rs ++ (cs ++ q)))))
+      (append-nil qs)
 
   -- ---- how long they are
   pub roles-long : length rs ≡ 3 * length (T .roles)
@@ -184,15 +187,26 @@ module _ (T : Draft) where
   ]
     where
       same : {k r a b n k′ r′ a′ b′ n′ : ℕ} → k ≡ k′ → r ≡ r′ → a ≡ a′ → b ≡ b′ → n ≡ n′
-          → _≡_ {A = Fields} (record { kind = k; role = r; first = a; second = b; number = n }) (record { kind = k′; role = r′; first = a′; second = b′; number = n′ })
+          → _≡_ {A = Fields} (record { kind = k; role = r; first = a; second = b; number = n })
+          (record { kind = k′; role = r′; first = a′; second = b′; number = n′ })
       same p q s t u = rw (p, q, s, t, u) refl
 
   is-described : describe rs cs qs ≡ describes T
-  is-described = same (omega (arith, roles-long)) (fun-ext (λ r. ap (λ b. eqb b 1) (byte-of r))) (fun-ext mask-of) (omega (arith, concepts-long))
+  is-described = same (omega (arith, roles-long)) (fun-ext (λ r. ap (λ b. eqb b 1) (byte-of r))) (fun-ext mask-of)
+      (omega (arith, concepts-long))
       (fun-ext (λ e. ap entryOfFields (fields-of e))) (omega arith) (fun-ext (λ i. ap (λ j. literal (byteAt qs j)) (add-one i)))
     where
       of : ℕ → (ℕ → Bool) → (ℕ → ℕ) → ℕ → (ℕ → Entry) → ℕ → (ℕ → Literal) → Description
-      of n t m c f k g = record { roles = n; transitive = t; parents = m; entries = c; entry = f; root = literal (rootOf (T .root)); rules = k; rule = g }
+      of n t m c f k g = record {
+        roles = n;
+        transitive = t;
+        parents = m;
+        entries = c;
+        entry = f;
+        root = literal (rootOf (T .root));
+        rules = k;
+        rule = g;
+      }
 
       same : {n n′ : ℕ} {t t′ : ℕ → Bool} {m m′ : ℕ → ℕ} {c c′ : ℕ} {f f′ : ℕ → Entry} {k k′ : ℕ} {g g′ : ℕ → Literal}
           → n ≡ n′ → t ≡ t′ → m ≡ m′ → c ≡ c′ → f ≡ f′ → k ≡ k′ → g ≡ g′ → of n t m c f k g ≡ of n′ t′ m′ c′ f′ k′ g′
@@ -214,16 +228,19 @@ module _ (T : Draft) where
       sizes = let l = roles-long in let k = concepts-long in let t = there in
           simp reading ((omega arith, (omega arith, omega arith)), ((omega arith, (omega arith, omega arith)), (omega arith, omega arith)))
 
-      rest : descriptionTests (Bytes.roleForm rs) (Bytes.entryForm cs) (describe rs cs qs) ≡ descriptionTests (roleForm T) (entryForm T) (describes T)
+      rest : descriptionTests (Bytes.roleForm rs) (Bytes.entryForm cs) (describe rs cs qs)
+          ≡ descriptionTests (roleForm T) (entryForm T) (describes T)
       rest = ap (descriptionTests (Bytes.roleForm rs) (Bytes.entryForm cs)) is-described
           ∙ ap (λ f. descriptionTests f (Bytes.entryForm cs) (describes T)) (fun-ext (λ r. ap (λ b. leb b 1) (byte-of r)))
-          ∙ ap (λ f. descriptionTests (roleForm T) f (describes T)) (fun-ext (λ e. ap (λ F. sameFields F (fieldsOf (entryOfFields F))) (fields-of e)))
+          ∙ ap (λ f. descriptionTests (roleForm T) f (describes T))
+          (fun-ext (λ e. ap (λ F. sameFields F (fieldsOf (entryOfFields F))) (fields-of e)))
 
       rules : Bool
       rules = allBelow (length (T .rules)) (λ i. literalTest (describes T) (describes T .rule i))
 
       last : descriptionTests (roleForm T) (entryForm T) (describes T) ≡ broken T
-      last = ap (λ b. tests (roleForm T) (entryForm T) ((b ⇒ literalTest (describes T) (describes T .root)) && rules) (describes T)) (sym (there .1 .1)) ∙ sym (broken-is T)
+      last = ap (λ b. tests (roleForm T) (entryForm T) ((b ⇒ literalTest (describes T) (describes T .root)) && rules) (describes T))
+          (sym (there .1 .1)) ∙ sym (broken-is T)
 
   -- so it is accepted
   pub out-accepted : Made T → So (whole T) → bytesTest (outBytes T) ≡ none
@@ -237,6 +254,8 @@ module _ (T : Draft) where
     where
       room : (wholly (outRefused T n) ≡ none) ↔ (So (whole T) × (length (outBytes T) ≤ n))
       room = (
-        λ e. let a = unless↔ (whole T) 2 _ .0 (refuse↔ 0 (outRefused T n) none .0 e .0) in (a .0, so-leb _ n (unless↔ (leb (length out) n) 22 none .0 (a .1) .0)),
-        λ h. refuse↔ 0 (outRefused T n) none .1 (unless↔ (whole T) 2 _ .1 (h .0, unless↔ (leb (length out) n) 22 none .1 (leb-so _ n (h .1), refl)), refl),
+        λ e. let a = unless↔ (whole T) 2 _ .0 (refuse↔ 0 (outRefused T n) none .0 e .0) in
+            (a .0, so-leb _ n (unless↔ (leb (length out) n) 22 none .0 (a .1) .0)),
+        λ h. refuse↔ 0 (outRefused T n) none .1
+            (unless↔ (whole T) 2 _ .1 (h .0, unless↔ (leb (length out) n) 22 none .1 (leb-so _ n (h .1), refl)), refl),
       )

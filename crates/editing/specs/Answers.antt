@@ -30,8 +30,10 @@ module _ (T : Draft) (m : Made T) where
       ≡ unless (ltb r (length (T .roles)) && ltb p (length (T .roles))) 3
       (unless (simplesTest (describes (putIn T (inclusion r p)))) 5 (unless (everysTest (describes (putIn T (inclusion r p)))) 7 none))
   unfolding refusal
-  inclusion-answers r p = unless-then inside inside 3 _ _ refl (λ u. let hr = so-ltb r n (and-l (ltb r n) _ u) in let hp = so-ltb p n (and-r (ltb r n) _ u) in
-      inclusion-broken T (passed m) r p hr hp ∙ ap (λ E. unless (simplesTest E) 5 (unless (everysTest E) 7 none)) (sym (includes T (passed m) r p hr hp)))
+  inclusion-answers r p = unless-then inside inside 3 _ _ refl
+      (λ u. let hr = so-ltb r n (and-l (ltb r n) _ u) in let hp = so-ltb p n (and-r (ltb r n) _ u) in
+      inclusion-broken T (passed m) r p hr hp ∙ ap (λ E. unless (simplesTest E) 5 (unless (everysTest E) 7 none))
+      (sym (includes T (passed m) r p hr hp)))
     where
       n : ℕ
       n = length (T .roles)
@@ -47,14 +49,16 @@ module _ (T : Draft) (m : Made T) where
       (unless (distinctTest (describes T) (length (T .entries)) (entryOfFields F)) 6
       (unless (everyBelowTest (describes (putIn T (concept F))) (entryOfFields F)) 7 none))))
   unfolding refusal
-  concept-answers F = ap (unless (ltb (length (T .entries)) mostEntries) 25) (concept-broken T (passed m) F ∙ ap last (sym (grows T (passed m) F)))
+  concept-answers F = ap (unless (ltb (length (T .entries)) mostEntries) 25)
+      (concept-broken T (passed m) F ∙ ap last (sym (grows T (passed m) F)))
     where
       X : Entry
       X = entryOfFields F
 
       last : Description → Option ℕ
       last G = unless (sameFields F (fieldsOf X) && entryTest (describes T) (length (T .entries)) X) 4
-          (unless (simpleTest (describes T) X) 5 (unless (distinctTest (describes T) (length (T .entries)) X) 6 (unless (everyBelowTest G X) 7 none)))
+          (unless (simpleTest (describes T) X) 5 (unless (distinctTest (describes T) (length (T .entries)) X) 6
+          (unless (everyBelowTest G X) 7 none)))
 
   -- the root: 8
   pub root-answers : (l : ℕ) → refusal T (newRoot l) ≡ unless (literalTest (describes T) (literal l)) 8 none
@@ -62,6 +66,7 @@ module _ (T : Draft) (m : Made T) where
   root-answers l = root-broken T (passed m) l
 
   -- a rule: 25, 8
-  pub rule-answers : (l : ℕ) → refusal T (newRule l) ≡ unless (ltb (length (T .rules)) mostRules) 25 (unless (literalTest (describes T) (literal l)) 8 none)
+  pub rule-answers : (l : ℕ) → refusal T (newRule l) ≡ unless (ltb (length (T .rules)) mostRules) 25
+      (unless (literalTest (describes T) (literal l)) 8 none)
   unfolding refusal
   rule-answers l = ap (unless (ltb (length (T .rules)) mostRules) 25) (rule-broken T (passed m) l)

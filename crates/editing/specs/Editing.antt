@@ -79,7 +79,8 @@ queryKept T = (isSet (T .root) ⇒ literalTest (describes T) (describes T .root)
 unfoldable pub broken : Draft → Option ℕ
 broken T =
     unless (rolesTest (roleForm T) (describes T)) 3 (unless (entriesTest (entryForm T) (describes T)) 4
-    (unless (simplesTest (describes T)) 5 (unless (distinctsTest (describes T)) 6 (unless (everysTest (describes T)) 7 (unless (queryKept T) 8 none)))))
+    (unless (simplesTest (describes T)) 5 (unless (distinctsTest (describes T)) 6
+    (unless (everysTest (describes T)) 7 (unless (queryKept T) 8 none)))))
 
 -- ---- the operations: add a role, an inclusion of r in p, a concept; set the root; add a rule
 pub data Edit : Type 0 where
@@ -91,7 +92,12 @@ pub data Edit : Type 0 where
 
 -- the draft with it put in: a role comes without parents, "an inclusion sets its one parent bit, the own bit too", the last root counts
 abbrev pub putIn : Draft → Edit → Draft
-putIn T (newRole t) = record { roles = T .roles ++ (record { transitive = t; parents = 0 } ∷ []); entries = T .entries; root = T .root; rules = T .rules }
+putIn T (newRole t) = record {
+  roles = T .roles ++ (record { transitive = t; parents = 0 } ∷ []);
+  entries = T .entries;
+  root = T .root;
+  rules = T .rules;
+}
 putIn T (inclusion r p) = record {
   roles = set (T .roles) r (record { transitive = roleIn T r .transitive; parents = with (roleIn T r .parents) p });
   entries = T .entries;

@@ -38,7 +38,8 @@ module _ (D : Description) (inside : ParentsIn D) (r p : ℕ) (hr : r < D .roles
   pub included↔ : (x y : ℕ) → So (included E x y) ↔ (So (included D x y) ⊎ ((x ≡ r) × (y ≡ p)))
   included↔ x y = go (eqb x r) refl
     where
-      go : (b : Bool) → eqb x r ≡ b → So (has (cond b (with (D .parents x) p) (D .parents x)) y) ↔ (So (has (D .parents x) y) ⊎ ((x ≡ r) × (y ≡ p)))
+      go : (b : Bool) → eqb x r ≡ b → So (has (cond b (with (D .parents x) p) (D .parents x)) y)
+          ↔ (So (has (D .parents x) y) ⊎ ((x ≡ r) × (y ≡ p)))
       go true e = (
         λ u. elim (with↔ (D .parents x) p y .0 u) [ inl v ↦ inl v | inr q ↦ inr (so-eqb x r e, q) ],
         λ u. with↔ (D .parents x) p y .1 (elim u [ inl v ↦ inl v | inr q ↦ inr (q .1) ]),
@@ -59,7 +60,8 @@ module _ (D : Description) (inside : ParentsIn D) (r p : ℕ) (hr : r < D .roles
       (λ u. elim (or-cases (ancestor D x y) _ u) [
         | inl v ↦ anc-still x y h v
         | inr v ↦ anc-trans E still-inside x r y h (anc-still x r h (and-l (ancestor D x r) _ v))
-            (anc-trans E still-inside r p y hr (parent-anc E r p (included↔ r p .1 (inr (refl, refl)))) (anc-still p y hp (and-r (ancestor D x r) _ v)))
+            (anc-trans E still-inside r p y hr (parent-anc E r p (included↔ r p .1 (inr (refl, refl))))
+            (anc-still p y hp (and-r (ancestor D x r) _ v)))
       ])
     where
       P : ℕ → Bool
@@ -68,7 +70,8 @@ module _ (D : Description) (inside : ParentsIn D) (r p : ℕ) (hr : r < D .roles
       along : (a b : ℕ) → a < D .roles → So (included D a b) → So (P a) → So (P b)
       along a b ha v u = elim (or-cases (ancestor D x a) _ u) [
         | inl w ↦ or-l (ancestor D x b) _ (anc-trans D inside x a b h w (parent-anc D a b v))
-        | inr w ↦ or-r (ancestor D x b) _ (so-and (ancestor D x r) _ (and-l (ancestor D x r) _ w) (anc-trans D inside p a b hp (and-r (ancestor D x r) _ w) (parent-anc D a b v)))
+        | inr w ↦ or-r (ancestor D x b) _ (so-and (ancestor D x r) _ (and-l (ancestor D x r) _ w)
+            (anc-trans D inside p a b hp (and-r (ancestor D x r) _ w) (parent-anc D a b v)))
       ]
 
       at-r : So (P r) → So (ancestor D x r)
@@ -85,7 +88,8 @@ module _ (D : Description) (inside : ParentsIn D) (r p : ℕ) (hr : r < D .roles
       → setOf 16 (ancestor E x) ≡ joined (setOf 16 (ancestor D x)) (setOf 16 (ancestor D p)) r
   masks-including x few h = rw (has-setOf 16 (ancestor D x) r (omega arith)) (go (ancestor D x r) refl)
     where
-      go : (b : Bool) → ancestor D x r ≡ b → setOf 16 (ancestor E x) ≡ cond b (bitOr (setOf 16 (ancestor D x)) (setOf 16 (ancestor D p))) (setOf 16 (ancestor D x))
+      go : (b : Bool) → ancestor D x r ≡ b → setOf 16 (ancestor E x)
+          ≡ cond b (bitOr (setOf 16 (ancestor D x)) (setOf 16 (ancestor D p))) (setOf 16 (ancestor D x))
       go true e = setOf-cong 16 _ _ (λ y _. anc-including x y h ∙ rw e refl) ∙ sym (or-setOf 16 (ancestor D x) (ancestor D p))
       go false e = setOf-cong 16 _ _ (λ y _. anc-including x y h ∙ rw e (last (ancestor D x y)))
         where
@@ -96,5 +100,6 @@ module _ (D : Description) (inside : ParentsIn D) (r p : ℕ) (hr : r < D .roles
   -- a role that is simple was simple before
   pub simple-before : (s : ℕ) → So (simple E s) → So (simple D s)
   unfolding simple
-  simple-before s u = all-intro (D .roles) _ (λ t ht. so-not _ (λ v. not-so _ (all-elim (D .roles) (λ t. not (D .transitive t && ancestor E t s)) u t ht)
+  simple-before s u = all-intro (D .roles) _ (λ t ht. so-not _
+      (λ v. not-so _ (all-elim (D .roles) (λ t. not (D .transitive t && ancestor E t s)) u t ht)
       (so-and (D .transitive t) _ (and-l (D .transitive t) _ v) (anc-still t s ht (and-r (D .transitive t) _ v)))))

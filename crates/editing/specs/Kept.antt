@@ -88,8 +88,12 @@ pub made-few : (T : Draft) → Made T → Few T
 made-few = made-ind Few (omega arith, omega arith, omega arith) (λ T e f q. still T e f (done↔ T e .0 q .0))
   where
     still : (T : Draft) (e : Edit) → Few T → So (hasRoom T e) → Few (putIn T e)
-    still T (newRole t) f h = (let l = so-ltb (length (T .roles)) mostRoles h in omega (arith, length-snoc (T .roles) (record { transitive = t; parents = 0 })), f .1, f .2)
-    still T (inclusion r p) f h = (rw (length-set (T .roles) r (record { transitive = roleIn T r .transitive; parents = with (roleIn T r .parents) p })) (f .0), f .1, f .2)
+    still T (newRole t) f h = (
+      let l = so-ltb (length (T .roles)) mostRoles h in omega (arith, length-snoc (T .roles) (record { transitive = t; parents = 0 })),
+      f .1,
+      f .2,
+    )
+    still T (inclusion r p) f h = (subst (λ n. n ≤ mostRoles) (sym (length-set (T .roles) r _)) (f .0), f .1, f .2)
     still T (concept F) f h = (f .0, let l = so-ltb (length (T .entries)) mostEntries h in omega (arith, length-snoc (T .entries) F), f .2)
     still T (newRoot l) f h = f
     still T (newRule l) f h = (f .0, f .1, let k = so-ltb (length (T .rules)) mostRules h in omega (arith, length-snoc (T .rules) l))
@@ -105,7 +109,8 @@ unfolding allBelow
 all-last n p h = rw (all-intro n p h) refl
 
 -- 3 of one role
-pub role-fine : (T : Draft) → Passes T → (r : ℕ) → r < describes T .roles → So (roleForm T r && narrow (describes T .parents r) (describes T .roles))
+pub role-fine : (T : Draft) → Passes T → (r : ℕ) → r < describes T .roles
+    → So (roleForm T r && narrow (describes T .parents r) (describes T .roles))
 role-fine T P r h = all-elim (describes T .roles) _ (P .roles) r h
 
 pub parents-in : (T : Draft) → Passes T → ParentsIn (describes T)
@@ -123,7 +128,8 @@ entry-roles D E e (atLeast s l k) q = rw q refl
 -- so the entries, if they stay as they are, keep 4 with as many roles
 pub entries-roles : (T : Draft) → Passes T → (E : Description) → E .roles ≡ describes T .roles
     → So (allBelow (describes T .entries) (λ e. entryForm T e && entryTest E e (describes T .entry e)))
-entries-roles T P E q = all-cong (describes T .entries) _ _ (λ e _. ap (λ b. entryForm T e && b) (entry-roles E (describes T) e (describes T .entry e) q)) ∙ P .entries
+entries-roles T P E q = all-cong (describes T .entries) _ _ (λ e _.
+    ap (λ b. entryForm T e && b) (entry-roles E (describes T) e (describes T .entry e) q)) ∙ P .entries
 
 -- 8 of the rules
 pub rules-kept : (T : Draft) → Passes T → So (allBelow (length (T .rules)) (λ i. literalTest (describes T) (describes T .rule i)))

@@ -1,5 +1,5 @@
--- A concept put into a draft that breaks nothing is tested by 4 to 7 at itself, and by nothing else (02, job 4): earlier entries keep what they
--- have, since the table only grows.
+-- A concept put into a draft that breaks nothing is tested by 4 to 7 at itself, and by nothing else (02, job 4): earlier
+-- entries keep what they have, since the table only grows.
 use Prim.Native.Nat.{ℕ, suc, _≤_, _<_}
 use mathlib.Core.Path.{_≡_, refl, _∙_, ap}
 use mathlib.Core.Bool.{Bool, not, _&&_}
@@ -76,15 +76,18 @@ module _ (T : Draft) (P : Passes T) where
     four = sameFields F (fieldsOf X) && entryTest D n X
 
     entries-last : entriesTest (entryForm W) grown ≡ four
-    entries-last = all-last n _ (λ e h. rw (at-snoc-old (T .entries) F (fieldsOf top) e h, entry-roles grown D e (D .entry e) refl) (all-elim n _ (P .entries) e h))
+    entries-last = all-last n _ (λ e h. rw (at-snoc-old (T .entries) F (fieldsOf top) e h, entry-roles grown D e (D .entry e) refl)
+        (all-elim n _ (P .entries) e h))
         ∙ rw (at-snoc-new (T .entries) F (fieldsOf top), entry-roles grown D n X refl) refl
 
     simples-last : simplesTest grown ≡ simpleTest D X
-    simples-last = all-last n _ (λ e h. rw (old-entry e h) (simple-same (D .entry e) ∙ all-elim n _ (P .simples) e h)) ∙ rw new-entry (simple-same X)
+    simples-last = all-last n _ (λ e h. rw (old-entry e h) (simple-same (D .entry e) ∙ all-elim n _ (P .simples) e h))
+        ∙ rw new-entry (simple-same X)
 
     distincts-last : distinctsTest grown ≡ distinctTest D n X
     distincts-last = all-last n _ (λ f hf. rw (old-entry f hf)
-        (all-cong f _ _ (λ e he. ap (λ y. compound y ⇒ not (sameEntry y (D .entry f))) (old-entry e (omega arith))) ∙ all-elim n _ (P .distincts) f hf))
+        (all-cong f _ _ (λ e he. ap (λ y. compound y ⇒ not (sameEntry y (D .entry f))) (old-entry e (omega arith)))
+        ∙ all-elim n _ (P .distincts) f hf))
         ∙ rw new-entry (all-cong n _ _ (λ e he. ap (λ y. compound y ⇒ not (sameEntry y X)) (old-entry e he)))
 
     more-everys : (x : Entry) → So (everyBelowTest D x) → So (everyBelowTest grown x)
@@ -92,7 +95,8 @@ module _ (T : Draft) (P : Passes T) where
     more-everys (every s l) h = all-intro (D .roles) _ (λ t ht. imp-in (D .transitive t) _ (λ u. imp-in (ancestor D t s) _ (λ v.
         let w = any-elim n (λ f. sameEntry (every t l) (D .entry f))
         (imp-out (ancestor D t s) _ (imp-out (D .transitive t) _ (all-elim (D .roles) _ h t ht) u) v) in
-        any-intro (suc n) (λ f. sameEntry (every t l) (grown .entry f)) (w .0) (omega (arith, w .1)) (rw (old-entry (w .0) (w .1)) (w .2)))))
+        any-intro (suc n) (λ f. sameEntry (every t l) (grown .entry f)) (w .0) (omega (arith, w .1))
+        (rw (old-entry (w .0) (w .1)) (w .2)))))
     more-everys top h = refl
     more-everys name h = refl
     more-everys (both a b) h = refl

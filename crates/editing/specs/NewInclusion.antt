@@ -47,14 +47,17 @@ module _ (T : Draft) (P : Passes T) where
         made n t m = record { roles = n; transitive = t; parents = m; entries = D .entries; entry = D .entry; root = D .root; rules = D .rules; rule = D .rule }
 
         same-byte : (x : ℕ) → eqb (roleIn U x .transitive) 1 ≡ eqb (roleIn T x .transitive) 1
-        same-byte x = ap (λ R. eqb (R .transitive) 1) (role-at x) ∙ elim (decide (eqb x r)) [ inl u ↦ rw (u, so-eqb x r u) refl | inr u ↦ rw (so-false _ u) refl ]
+        same-byte x = ap (λ R. eqb (R .transitive) 1) (role-at x)
+            ∙ elim (decide (eqb x r)) [ inl u ↦ rw (u, so-eqb x r u) refl | inr u ↦ rw (so-false _ u) refl ]
 
         parents-at : (x : ℕ) → roleIn U x .parents ≡ cond (eqb x r) (with (D .parents x) p) (D .parents x)
-        parents-at x = ap (λ R. R .parents) (role-at x) ∙ elim (decide (eqb x r)) [ inl u ↦ rw (u, so-eqb x r u) refl | inr u ↦ rw (so-false _ u) refl ]
+        parents-at x = ap (λ R. R .parents) (role-at x)
+            ∙ elim (decide (eqb x r)) [ inl u ↦ rw (u, so-eqb x r u) refl | inr u ↦ rw (so-false _ u) refl ]
 
     -- 3, 4, 6 and 8 are as before, so 5 and 7 are left
     roles-fine : So (rolesTest (roleForm U) E)
-    roles-fine = all-intro (D .roles) _ (λ x h. so-and (roleForm U x) _ (form x h) (narrow↔ (E .parents x) (D .roles) .1 (λ s u. inside x h s u)))
+    roles-fine = all-intro (D .roles) _ (λ x h. so-and (roleForm U x) _ (form x h)
+        (narrow↔ (E .parents x) (D .roles) .1 (λ s u. inside x h s u)))
       where
         form : (x : ℕ) → x < D .roles → So (roleForm U x)
         form x h = ap (λ R. leb (R .transitive) 1) (role-at x) ∙ elim (decide (eqb x r)) [

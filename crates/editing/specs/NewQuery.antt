@@ -1,4 +1,5 @@
--- The root and a rule, put into a draft that breaks nothing, are tested by 8 at themselves, and by nothing else (02, job 4): 3 to 7 do not look at them.
+-- The root and a rule, put into a draft that breaks nothing, are tested by 8 at themselves, and by nothing else (02, job 4):
+-- 3 to 7 do not look at them.
 use Prim.Native.Nat.{ℕ, _<_}
 use mathlib.Core.Path.{_≡_, refl, _∙_, ap}
 use mathlib.Core.Bool.{Bool, true, false, _&&_}
@@ -54,7 +55,8 @@ module _ (T : Draft) (P : Passes T) where
       last false = refl
 
   pub rule-broken : (l : ℕ) → broken (putIn T (newRule l)) ≡ unless (literalTest D (literal l)) 8 none
-  rule-broken l = broken-is (putIn T (newRule l)) ∙ query-left (D .root) (length rules) (λ i. literal (getD rules i 0)) (queryKept (putIn T (newRule l)))
+  rule-broken l = broken-is (putIn T (newRule l)) ∙ query-left (D .root) (length rules) (λ i. literal (getD rules i 0))
+      (queryKept (putIn T (newRule l)))
       ∙ ap (λ b. unless b 8 none) (ap (λ b. b && allBelow (length rules) test) root-kept ∙ told)
     where
       rules : List ℕ
@@ -68,4 +70,5 @@ module _ (T : Draft) (P : Passes T) where
 
       told : allBelow (length rules) test ≡ literalTest D (literal l)
       told = rw (length-snoc (T .rules) l)
-          (all-last (D .rules) test (λ i h. rw (at-snoc-old (T .rules) l 0 i h) (all-elim (D .rules) _ (rules-kept T P) i h)) ∙ rw (at-snoc-new (T .rules) l 0) refl)
+          (all-last (D .rules) test (λ i h. rw (at-snoc-old (T .rules) l 0 i h) (all-elim (D .rules) _ (rules-kept T P) i h))
+          ∙ rw (at-snoc-new (T .rules) l 0) refl)

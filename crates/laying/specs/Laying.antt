@@ -27,16 +27,19 @@ pub laid-two : (old : List ℕ) (at a b : ℕ) → at + 2 ≤ length old → set
 laid-two old at a b h = ap (λ l. set l (at + 1) b) first ∙ second ∙ laid-copied old at (a ∷ b ∷ [])
   where
     first : set old at a ≡ paste old at (a ∷ b ∷ []) 1
-    first = rw (add-zero at) at ((ap (λ l. set l (at + 0) a) (paste-zero old at (a ∷ b ∷ []))) ∙ paste-suc old at (a ∷ b ∷ []) 0 0 (omega arith) (omega arith))
+    first = rw (add-zero at) at ((ap (λ l. set l (at + 0) a) (paste-zero old at (a ∷ b ∷ [])))
+        ∙ paste-suc old at (a ∷ b ∷ []) 0 0 (omega arith) (omega arith))
 
     second : set (paste old at (a ∷ b ∷ []) 1) (at + 1) b ≡ paste old at (a ∷ b ∷ []) 2
     second = paste-suc old at (a ∷ b ∷ []) 1 0 (omega arith) (omega arith)
 
 -- ---- pieces
 -- a piece behind a piece is one piece
-pub laid-on : (old : List ℕ) (at : ℕ) (u v : List ℕ) → at + length u ≤ length old → laid (laid old at u) (at + length u) v ≡ laid old at (u ++ v)
+pub laid-on : (old : List ℕ) (at : ℕ) (u v : List ℕ) → at + length u ≤ length old
+    → laid (laid old at u) (at + length u) v ≡ laid old at (u ++ v)
 unfolding laid
-laid-on old at u v h = ap₂ (λ a b. a ++ v ++ b) (take-at front rest (at + length u) long) behind ∙ ap (λ a. a ++ tail) (append-assoc (take at old) u v)
+laid-on old at u v h = ap₂ (λ a b. a ++ v ++ b) (take-at front rest (at + length u) long) behind
+    ∙ ap (λ a. a ++ tail) (append-assoc (take at old) u v)
   where
     front : List ℕ
     front = take at old ++ u
@@ -51,20 +54,24 @@ laid-on old at u v h = ap₂ (λ a b. a ++ v ++ b) (take-at front rest (at + len
     long = length-append (take at old) u ∙ ap (λ n. n + length u) (length-take-le at old (omega arith))
 
     behind : drop (at + length u + length v) (front ++ rest) ≡ tail
-    behind = ap (λ n. drop (n + length v) (front ++ rest)) (sym long) ∙ drop-append-add front rest (length v) ∙ drop-drop (length v) (at + length u) old
+    behind = ap (λ n. drop (n + length v) (front ++ rest)) (sym long) ∙ drop-append-add front rest (length v)
+        ∙ drop-drop (length v) (at + length u) old
         ∙ ap (λ n. drop n old) (let z : at + length u + length v ≡ at + length (u ++ v) = omega (arith, length-append u v) in z)
 
 pub laid-long : (old : List ℕ) (at : ℕ) (text : List ℕ) → at + length text ≤ length old → length (laid old at text) ≡ length old
 laid-long old at text h = ap length (sym (laid-copied old at text)) ∙ length-paste old at text (length text) h (omega arith)
 
 -- pieces are their bytes, in one piece
-pub laid-pieces : (at : ℕ) (ws : List (List ℕ)) (old : List ℕ) → at + length (flatten ws) ≤ length old → laidFrom at ws old ≡ laid old at (flatten ws)
+pub laid-pieces : (at : ℕ) (ws : List (List ℕ)) (old : List ℕ) → at + length (flatten ws) ≤ length old
+    → laidFrom at ws old ≡ laid old at (flatten ws)
 unfolding laidFrom flatten
 laid-pieces at [] old h = paste-zero old at [] ∙ laid-copied old at []
 laid-pieces at (w ∷ ws) old h = let l = length-append w (flatten ws) in
-    laid-pieces (at + length w) ws (laid old at w) (omega (arith, laid-long old at w (omega arith))) ∙ laid-on old at w (flatten ws) (omega arith)
+    laid-pieces (at + length w) ws (laid old at w) (omega (arith, laid-long old at w (omega arith)))
+    ∙ laid-on old at w (flatten ws) (omega arith)
 
 -- so from the front on they leave their bytes, and behind them the old ones: what a writer leaves if nothing refuses
-pub laid-output : (ws : List (List ℕ)) (old : List ℕ) → length (flatten ws) ≤ length old → laidFrom 0 ws old ≡ flatten ws ++ drop (length (flatten ws)) old
+pub laid-output : (ws : List (List ℕ)) (old : List ℕ) → length (flatten ws) ≤ length old
+    → laidFrom 0 ws old ≡ flatten ws ++ drop (length (flatten ws)) old
 unfolding laid
 laid-output ws old h = laid-pieces 0 ws old (omega arith) ∙ ap (λ n. flatten ws ++ drop n old) (zero-add (length (flatten ws)))
