@@ -3,7 +3,6 @@ use Prim.Native.Nat.{ℕ, zero, suc}
 use mathlib.Core.Path.{_≡_, refl}
 use mathlib.Core.List.{List, [], _∷_, _++_, map, flatten}
 use mathlib.Core.Option.{Option, none, some}
-use lib.ListN.{length}
 use Rattle.description.specs.Descriptions.{Fields}
 use Rattle.answers.specs.Answers.{WRITTEN, REFUSED, Answer}
 use Rattle.editing.specs.Editing.{RoleIn, Draft}

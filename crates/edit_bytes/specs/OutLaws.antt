@@ -1,8 +1,8 @@
 -- What the editor writes out is the description that was put in, and is accepted (02, job 4).
-use Prim.Native.Nat.{ℕ, zero, suc, _+_, _-_, _*_, _/_, _≤_, _<_}
+use Prim.Native.Nat.{ℕ, zero, suc, _+_, _-_, _*_, _≤_, _<_}
 use mathlib.Core.Path.{_≡_, refl, sym, _∙_, ap, ap₂, fun-ext}
 use mathlib.Core.Logic.{_↔_}
-use mathlib.Core.Bool.{Bool, true, _&&_}
+use mathlib.Core.Bool.{Bool, _&&_}
 use mathlib.Core.List.{List, [], _∷_, _++_, map, flatten, append-nil}
 use mathlib.Core.Option.{none}
 use native.Mathlib.Omega.{arith}
@@ -12,10 +12,10 @@ use lib.Dec.{eqb, leb}
 use lib.ListN.{length, getD, take, drop, length-append, length-map, List·getD-eq-default}
 use Rattle.logic.specs.Tests.{So, _⇒_, so-leb, leb-so, reading}
 use Rattle.logic.specs.Bounded.{allBelow}
-use Rattle.logic.specs.Refusals.{unless, unless↔, refuse↔}
+use Rattle.logic.specs.Refusals.{unless↔, refuse↔}
 use Rattle.parts.specs.Numbers.{byteAt, num2}
 use Rattle.parts.specs.Pairs.{offsetAt, beginAt, Fills, fills↔}
-use Rattle.laying.specs.Places.{Stands, stands-end, first, second, byte, part, before, stands-piece, before-even, before-all, at-map}
+use Rattle.laying.specs.Places.{Stands, stands-end, first, second, byte, part, stands-piece, before-even, before-all, at-map}
 use Rattle.laying.specs.Numbers.{two, two-bytes}
 use Rattle.description.specs.Literals.{Literal, literal}
 use Rattle.description.specs.Descriptions.{Description, Entry, Fields, fieldsOf, top, entryOfFields, sameFields}
@@ -25,7 +25,7 @@ use Rattle.labels.specs.Labels.{mostEntries}
 use Rattle.intake.specs.Intake.{rolesPart, conceptsPart, queryPart, described, mostRoles, mostRules, sizesTest, recordsTest, partsTest, bytesTest}
 use Rattle.intake.specs.Intake as Bytes
 use Rattle.answers.specs.Answers.{wholly, answer, WRITTEN, told↔}
-use Rattle.editing.specs.Editing.{RoleIn, Draft, roleIn, fieldsIn, isSet, rootOf, describes, roleForm, entryForm, queryKept, broken, Made}
+use Rattle.editing.specs.Editing.{RoleIn, Draft, roleIn, fieldsIn, isSet, rootOf, describes, roleForm, entryForm, broken, Made}
 use Rattle.editing.specs.Kept.{broken-is, tests, made-kept, Few, made-few}
 use Rattle.edit_bytes.specs.Out.{roleBytes, entryBytes, rolesOut, conceptsOut, queryOut, pair, withPairs, outBytes, whole, outRefused, outAnswer}
 

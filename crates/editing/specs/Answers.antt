@@ -1,5 +1,5 @@
 -- What each operation can answer on a draft that is made (02, job 4): exactly these numbers, in this order, and no other.
-use Prim.Native.Nat.{ℕ, _<_}
+use Prim.Native.Nat.{ℕ}
 use mathlib.Core.Path.{_≡_, refl, sym, _∙_, ap}
 use mathlib.Core.Bool.{Bool, _&&_}
 use mathlib.Core.Option.{Option, none}

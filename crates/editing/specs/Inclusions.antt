@@ -1,13 +1,13 @@
 -- One inclusion more (02, job 4): which ancestors it gives, and which roles it leaves simple.
 use Prim.Native.Nat.{ℕ, _≤_, _<_}
-use mathlib.Core.Path.{_≡_, refl, sym, _∙_, ap, subst}
+use mathlib.Core.Path.{_≡_, refl, sym, _∙_, subst}
 use mathlib.Core.Logic.{_↔_, _⊎_, inl, inr}
 use mathlib.Core.Bool.{Bool, true, false, cond, not, _&&_, _||_, false≢true}
 use native.Mathlib.Omega.{arith}
 use lib.Bits.{bitOr}
 use lib.Dec.{eqb}
-use Rattle.logic.specs.Tests.{So, so-and, and-l, and-r, or-l, or-r, or-cases, so-eqb, eqb-so, eqb↔, same-test, decide, so-false, so-not, not-so}
-use Rattle.logic.specs.Bounded.{allBelow, all-intro, all-elim}
+use Rattle.logic.specs.Tests.{So, so-and, and-l, and-r, or-l, or-r, or-cases, so-eqb, eqb↔, same-test, so-not, not-so}
+use Rattle.logic.specs.Bounded.{all-intro, all-elim}
 use Rattle.logic.specs.Sets.{has, with, setOf}
 use Rattle.logic.specs.SetLaws.{with↔, has-setOf, setOf-cong, or-setOf}
 use Rattle.description.specs.Descriptions.{Description, included}

@@ -3,16 +3,15 @@ use Prim.Native.Nat.{ℕ, suc, _≤_, _<_}
 use mathlib.Core.Path.{_≡_, refl, sym, _∙_, ap, subst}
 use mathlib.Core.Logic.{_↔_}
 use mathlib.Core.Bool.{Bool, _&&_}
-use mathlib.Core.List.{[], _∷_}
+use mathlib.Core.List.{[]}
 use mathlib.Core.Option.{Option, none, some}
 use native.Mathlib.Omega.{arith}
-use lib.Dec.{ltb}
 use lib.ListN.{length, length-set}
 use Rattle.logic.specs.Tests.{So, _⇒_, and-r, so-ltb}
 use Rattle.logic.specs.Bounded.{allBelow, all-intro, all-elim, all-cong}
 use Rattle.logic.specs.Lists.{length-snoc}
 use Rattle.logic.specs.Refusals.{unless, unless↔}
-use Rattle.logic.specs.Sets.{narrow, with}
+use Rattle.logic.specs.Sets.{narrow}
 use Rattle.logic.specs.SetLaws.{narrow↔}
 use Rattle.description.specs.Descriptions.{Description, Entry, top, name, both, every, atLeast}
 use Rattle.description.specs.Acceptance.{rolesTest, entriesTest, entryTest, simplesTest, distinctsTest, everysTest, literalTest}
@@ -20,7 +19,7 @@ use Rattle.labels.specs.Labels.{mostEntries}
 use Rattle.intake.specs.Intake.{mostRoles, mostRules}
 use Rattle.answers.specs.Answers.{wholly, unlessRefused}
 use Rattle.editing.specs.Inclusions.{ParentsIn}
-use Rattle.editing.specs.Editing.{Draft, roleIn, isSet, describes, roleForm, entryForm, queryKept, broken, Edit, newRole, inclusion, concept, newRoot, newRule, putIn, hasRoom, inTable, refusal, edited, Made, start, next}
+use Rattle.editing.specs.Editing.{Draft, isSet, describes, roleForm, entryForm, queryKept, broken, Edit, newRole, inclusion, concept, newRoot, newRule, putIn, hasRoom, inTable, refusal, Made, start, next}
 
 -- ---- the tests of 3 to 8 in their order, of a description with what they ask beside it
 abbrev pub tests : (ℕ → Bool) → (ℕ → Bool) → Bool → Description → Option ℕ

@@ -1,6 +1,6 @@
 -- A concept put into a draft that breaks nothing is tested by 4 to 7 at itself, and by nothing else (02, job 4): earlier
 -- entries keep what they have, since the table only grows.
-use Prim.Native.Nat.{ℕ, suc, _≤_, _<_}
+use Prim.Native.Nat.{ℕ, suc, _<_}
 use mathlib.Core.Path.{_≡_, refl, _∙_, ap}
 use mathlib.Core.Bool.{Bool, not, _&&_}
 use mathlib.Core.List.{[], _∷_, _++_}

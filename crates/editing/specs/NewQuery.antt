@@ -1,6 +1,6 @@
 -- The root and a rule, put into a draft that breaks nothing, are tested by 8 at themselves, and by nothing else (02, job 4):
 -- 3 to 7 do not look at them.
-use Prim.Native.Nat.{ℕ, _<_}
+use Prim.Native.Nat.{ℕ}
 use mathlib.Core.Path.{_≡_, refl, _∙_, ap}
 use mathlib.Core.Bool.{Bool, true, false, _&&_}
 use mathlib.Core.List.{List, [], _∷_, _++_}

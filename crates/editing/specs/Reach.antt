@@ -1,26 +1,25 @@
 -- Every draft that breaks none of 3 to 8 and is within the limits is made by the operations (02, job 4): roles, concepts, inclusions,
 -- root and rules, in this order, since without parents a role's only ancestor is itself and fewer parents break no more.
-use Prim.Native.Nat.{ℕ, zero, suc, _+_, _*_, _/_, _%_, _^_, _≤_, _<_}
-use mathlib.Core.Path.{_≡_, refl, sym, _∙_, ap, ap₂, subst, fun-ext}
+use Prim.Native.Nat.{ℕ, zero, suc, _+_, _*_, _/_, _%_, _≤_, _<_}
+use mathlib.Core.Path.{_≡_, refl, sym, _∙_, ap, subst}
 use mathlib.Core.Logic.{_↔_, _⊎_, inl, inr}
-use mathlib.Core.Bool.{Bool, true, false, cond, not, _&&_, _||_, false≢true}
-use mathlib.Core.List.{List, [], _∷_, _++_}
+use mathlib.Core.Bool.{not, _&&_}
+use mathlib.Core.List.{[]}
 use mathlib.Core.Option.{Option, none, some}
 use native.Mathlib.Omega.{arith}
 use native.Mathlib.Decide.{decLt}
-use borrow.Author.Tests.{lt-ltb, eq-eqb, ne-eqb}
-use lib.Dec.{eqb, leb, ltb}
+use lib.Dec.{eqb, ltb}
 use lib.ListN.{length, getD, set, length-set, List·getD-eq-default}
 use lib.Seq.{ext-getD, getD-set-same, getD-set-other}
-use Rattle.logic.specs.Tests.{So, _⇒_, so-and, and-l, and-r, or-cases, so-not, not-so, imp-in, imp-out, same-test, decide, so-false, so-ltb, ltb-so, so-eqb, eqb↔}
-use Rattle.logic.specs.Bounded.{allBelow, anyBelow, all-intro, all-elim, any-intro, any-elim}
+use Rattle.logic.specs.Tests.{So, _⇒_, so-and, and-l, and-r, so-not, not-so, imp-in, imp-out, decide, so-ltb, ltb-so, so-eqb, eqb↔}
+use Rattle.logic.specs.Bounded.{all-intro, all-elim, any-intro, any-elim}
 use Rattle.logic.specs.Lists.{tabulate, length-tabulate, at-tabulate, tabulate-snoc, tabulate-cong}
 use Rattle.logic.specs.Sets.{has, narrow, with, setOf}
 use Rattle.logic.specs.SetLaws.{narrow↔, with↔, setOf↔, set-ext, no-member}
 use Rattle.description.specs.Literals.{Literal, entryOf, literal}
-use Rattle.description.specs.Descriptions.{Description, included, Entry, top, name, both, every, atLeast, Fields, fieldsOf, entryOfFields, sameFields, sameEntry, sameEntry↔, compound, ifEvery↔, ifLeast↔}
+use Rattle.description.specs.Descriptions.{Description, included, Entry, top, every, fieldsOf, entryOfFields, sameEntry, sameEntry↔, ifEvery↔, ifLeast↔}
 use Rattle.description.specs.Roles.{ancestor, simple, anc-refl, parent-anc, anc-ind, anc-trans}
-use Rattle.description.specs.Acceptance.{rolesTest, entriesTest, entryTest, simplesTest, simpleTest, distinctsTest, distinctTest, everysTest, everyBelowTest, literalTest}
+use Rattle.description.specs.Acceptance.{entryTest, simplesTest, simpleTest, distinctTest, everysTest, everyBelowTest, literalTest}
 use Rattle.labels.specs.Labels.{mostEntries}
 use Rattle.intake.specs.Intake.{mostRoles, mostRules}
 use Rattle.editing.specs.Inclusions.{ParentsIn, including, included↔, still-inside}
