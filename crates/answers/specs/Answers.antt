@@ -2,8 +2,10 @@
 use Prim.Native.Nat.{ℕ}
 use mathlib.Core.Path.{_≡_, refl, sym, _∙_, ap}
 use mathlib.Core.Logic.{_↔_}
+use mathlib.Core.List.{List, _++_}
 use native.Mathlib.Omega.{arith}
 use mathlib.Core.Option.{Option, none, some, Option·none-ne-some}
+use lib.ListN.{length, drop}
 use Rattle.logic.specs.Refusals.{Refusal, refuse}
 use Rattle.answers.specs.declared.Tested.{Tested}
 use Rattle.answers.specs.declared.Tested.the-variants.{Fine, Refused}
@@ -11,6 +13,8 @@ use Rattle.answers.specs.declared.Verdict as Verdicts
 use Rattle.answers.specs.declared.Judgement as Judgements
 use Rattle.answers.specs.declared.Written as Writings
 use Rattle.answers.specs.declared.Reading as Readings
+use Rattle.answers.specs.declared.Change as Changes
+use Rattle.answers.specs.declared.Output as Outputs
 
 -- the paper's number and record of each case; none where nothing refuses
 abbrev pub refusalOf : Tested → Option Refusal
@@ -30,7 +34,7 @@ fine↔ (Refused n r) (some m) e = (λ q. absurd (let z : _≡_ {A = ℕ} 0 1 = 
 
 -- ---- what is told: a word, then the refusal's number and record, or 0 and 0
 pub data Word : Type 0 where
-  REFUSED INHABITED EMPTY WRITTEN HOLDS FAILS HOLDS-OF-NOTHING : Word
+  REFUSED INHABITED EMPTY WRITTEN HOLDS FAILS HOLDS-OF-NOTHING DONE : Word
 
 pub record Answer : Type 0 where
   pub word : Word
@@ -72,6 +76,29 @@ ofReading Readings.the-variants.Holds = answer HOLDS none
 ofReading Readings.the-variants.Fails = answer FAILS none
 ofReading (Readings.the-variants.Refused n r) = answer REFUSED (some (record { number = n; place = r }))
 
+abbrev pub ofChange : Changes.Change → Answer
+ofChange Changes.the-variants.Done = answer DONE none
+ofChange (Changes.the-variants.Refused n r) = answer REFUSED (some (record { number = n; place = r }))
+
+abbrev pub ofOutput : Outputs.Output → Answer
+ofOutput (Outputs.the-variants.Bytes n) = answer WRITTEN none
+ofOutput (Outputs.the-variants.Refused n r) = answer REFUSED (some (record { number = n; place = r }))
+
+-- how many bytes a writer says that it wrote
+abbrev pub sizeOf : Outputs.Output → ℕ
+sizeOf (Outputs.the-variants.Bytes n) = n
+sizeOf (Outputs.the-variants.Refused n r) = 0
+
+-- ---- what a writer leaves (02, job 4)
+-- what a refusal leaves, or what is there otherwise
+abbrev pub unlessRefused : {A : Type 0} → A → A → Option Refusal → A
+unlessRefused kept done none = done
+unlessRefused kept done (some x) = kept
+
+-- the buffer after any writer: its output and then the old bytes; on a refusal all bytes are as before
+abbrev pub buffered : List ℕ → List ℕ → Option Refusal → List ℕ
+buffered out old o = unlessRefused old (out ++ drop (length out) old) o
+
 -- ---- the case that a word tells
 pub inhabited↔ : (v : Verdicts.Verdict) → (ofVerdict v ≡ answer INHABITED none) ↔ (v ≡ Verdicts.the-variants.Inhabited)
 inhabited↔ Verdicts.the-variants.Inhabited = (λ _. refl, λ _. refl)
@@ -97,6 +124,14 @@ fails↔ Readings.the-variants.Fails = (λ _. refl, λ _. refl)
 fails↔ Readings.the-variants.Holds = (λ e. absurd (let w = ap (λ (x : Answer). x .word) e in let z : _≡_ {A = ℕ} 0 1 = cc in omega arith), λ e. absurd (let z : _≡_ {A = ℕ} 0 1 = cc in omega arith))
 fails↔ (Readings.the-variants.Refused n r) = (λ e. absurd (let w = ap (λ (x : Answer). x .word) e in let z : _≡_ {A = ℕ} 0 1 = cc in omega arith), λ e. absurd (let z : _≡_ {A = ℕ} 0 1 = cc in omega arith))
 
+pub done↔ : (c : Changes.Change) → (ofChange c ≡ answer DONE none) ↔ (c ≡ Changes.the-variants.Done)
+done↔ Changes.the-variants.Done = (λ _. refl, λ _. refl)
+done↔ (Changes.the-variants.Refused n r) = (λ e. absurd (let w = ap (λ (x : Answer). x .word) e in let z : _≡_ {A = ℕ} 0 1 = cc in omega arith), λ e. absurd (let z : _≡_ {A = ℕ} 0 1 = cc in omega arith))
+
+pub output↔ : (w : Outputs.Output) → (ofOutput w ≡ answer WRITTEN none) ↔ (w ≡ Outputs.the-variants.Bytes (sizeOf w))
+output↔ (Outputs.the-variants.Bytes n) = (λ _. refl, λ _. refl)
+output↔ (Outputs.the-variants.Refused n r) = (λ e. absurd (let w = ap (λ (x : Answer). x .word) e in let z : _≡_ {A = ℕ} 0 1 = cc in omega arith), λ e. absurd (let z : _≡_ {A = ℕ} 0 1 = cc in omega arith))
+
 -- the case of an answer on a claim, from what is told of it
 abbrev judgementOf : Answer → Judgements.Judgement
 judgementOf a = elim (a .word) [
@@ -107,6 +142,7 @@ judgementOf a = elim (a .word) [
   | HOLDS ↦ Judgements.the-variants.Holds
   | FAILS ↦ Judgements.the-variants.Fails
   | HOLDS-OF-NOTHING ↦ Judgements.the-variants.HoldsOfNothing
+  | DONE ↦ Judgements.the-variants.Refused 0 0
 ]
 
 judgement-back : (v : Judgements.Judgement) → judgementOf (ofJudgement v) ≡ v

@@ -33,3 +33,15 @@ pub enum Reading {
     Fails,
     Refused(u8, u8),
 }
+
+// The answer of an operation of the editor.
+pub enum Change {
+    Done,
+    Refused(u8, u8),
+}
+
+// The answer of a writer: how many bytes it wrote.
+pub enum Output {
+    Bytes(usize),
+    Refused(u8, u8),
+}

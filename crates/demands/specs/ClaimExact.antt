@@ -34,7 +34,7 @@ use Rattle.graph_check.specs.GraphEvidence.{GraphKept, kept↔}
 use Rattle.lists.specs.ListEvidence.{ListKept, list-kept↔}
 use Rattle.answers.specs.declared.Judgement.{Judgement}
 use Rattle.answers.specs.declared.Judgement.the-variants.{Holds, Fails, HoldsOfNothing}
-use Rattle.answers.specs.Answers.{Word, REFUSED, INHABITED, EMPTY, WRITTEN, HOLDS, FAILS, HOLDS-OF-NOTHING, answer, told↔, ofJudgement, judgement↔, case-when}
+use Rattle.answers.specs.Answers.{Word, REFUSED, INHABITED, EMPTY, WRITTEN, HOLDS, FAILS, HOLDS-OF-NOTHING, DONE, answer, told↔, ofJudgement, judgement↔, case-when}
 use Rattle.claims.specs.declared.Pieces.{Pieces}
 use Rattle.claims.specs.declared.Pieces.the-variants.{ListAndGraph, GraphAlone, ListAlone, Misfit, Off}
 use Rattle.claims.specs.ClaimSteps.{second-some}
@@ -64,6 +64,7 @@ kindsFor WRITTEN = Off
 kindsFor HOLDS = ListAndGraph
 kindsFor FAILS = GraphAlone
 kindsFor HOLDS-OF-NOTHING = ListAlone
+kindsFor DONE = Off
 
 fitting : (p : Pieces) → kindsRefusal p ≡ none → p ≡ kindsFor (shows p)
 fitting ListAndGraph e = refl

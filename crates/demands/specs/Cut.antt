@@ -17,7 +17,7 @@ use Rattle.intake.specs.Intake.{described}
 use Rattle.evidence.specs.Evidence.{recordCount, headTest, head↔}
 use Rattle.graph_check.specs.GraphEvidence.{graphTests}
 use Rattle.lists.specs.ListEvidence.{listTests}
-use Rattle.encoding.specs.Places.{Small, small-at}
+use Rattle.laying.specs.Places.{Small, small-at}
 use Rattle.verdict.specs.Verdict.{isList, evidenceTests, verdict}
 
 -- the last place where a pair's record can end

@@ -17,7 +17,7 @@ use Rattle.intake.specs.Intake.{described, AcceptedBytes}
 use Rattle.evidence.specs.declared.Layout.{Layout}
 use Rattle.evidence.specs.Evidence.{layoutOf, HeadOk, recordCount, recordAt, graphIn, NodeForm}
 use Rattle.lists.specs.Lists.{refutationIn, RecordForm}
-use Rattle.encoding.specs.Places.{Small, small-all}
+use Rattle.laying.specs.Places.{Small, small-all}
 use Rattle.encoding.specs.Encoding.{encodeGraph, GraphStored, graph-stored, graph-bytes, graph-fits, graph-again, encodeRefutation, RefutationStored, refutation-stored, refutation-bytes, refutation-fits, refutation-again}
 use Rattle.answers.specs.Answers.{Word, INHABITED, EMPTY, answer}
 use Rattle.verdict.specs.Verdict.{verdict}

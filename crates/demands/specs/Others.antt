@@ -20,7 +20,7 @@ use Rattle.refutation.specs.Cells.{rowsOf, bounds}
 use Rattle.refutation.specs.Records.{Cell, unshown, cited, conjunction, disjunction, Refutation, openAt}
 use Rattle.refutation.specs.Examples.{noneHas, clash, count}
 use Rattle.encoding.specs.Bundles.{bundle}
-use Rattle.encoding.specs.Numbers.{label}
+use Rattle.laying.specs.Numbers.{label}
 use Rattle.encoding.specs.Nodes.{encodeNode}
 use Rattle.encoding.specs.Trees.{encodeTree}
 use Rattle.encoding.specs.Steps.{encodeStep}

@@ -25,7 +25,7 @@ use Rattle.refutation.specs.Records.{Step, Refutation}
 use Rattle.evidence.specs.Evidence.{layoutOf, labelSize, recordCount, HeadOk, head↔, recordAt, edgesIn, labelOf, edgesPart, graphIn, mostEdges, NodeForm, nodeFormTest, other-width}
 use Rattle.list_form.specs.ListForm.{stepIn}
 use Rattle.lists.specs.Lists.{stepFrom, refutationIn, RecordForm}
-use Rattle.encoding.specs.Numbers.{eight, label}
+use Rattle.laying.specs.Numbers.{eight, label}
 use Rattle.encoding.specs.Bundles.{bundle}
 use Rattle.encoding.specs.Nodes.{encodeEdge, encodeNode}
 use Rattle.encoding.specs.Steps.{encodeStep}

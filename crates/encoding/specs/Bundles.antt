@@ -9,8 +9,8 @@ use Rattle.logic.specs.Lists.{_∈_, tabulate, length-tabulate, at-tabulate, ta
 use Rattle.parts.specs.Numbers.{byteAt}
 use Rattle.parts.specs.Pairs.{offsetAt, lengthAt, beginAt, Fills, pair-inside}
 use Rattle.evidence.specs.Evidence.{HeadOk, mostRecords, recordCount, recordAt}
-use Rattle.encoding.specs.Places.{Stands, stands-end, stands-in, first, second, part, stands-part, stands-append, stands-more, stands-whole, before, stands-piece, before-next, before-all, before-even, stands-flatten, read-off, at-map, each-map, map-tabulate, Small, small-more, small-append, small-flatten, small-in}
-use Rattle.encoding.specs.Numbers.{two, two-bytes}
+use Rattle.laying.specs.Places.{Stands, stands-end, stands-in, first, second, part, stands-part, stands-append, stands-more, stands-whole, before, stands-piece, before-next, before-all, before-even, stands-flatten, read-off, at-map, each-map, map-tabulate, Small, small-more, small-append, small-flatten, small-in}
+use Rattle.laying.specs.Numbers.{two, two-bytes}
 
 -- where record i begins: behind the head, the pairs and the records before it
 abbrev pub start : List (List ℕ) → ℕ → ℕ

@@ -18,8 +18,8 @@ use Rattle.evidence.specs.Evidence.{labelSize, mostRecords, mostEdges, HeadOk, 
 use Rattle.list_form.specs.ListForm.{stepIn}
 use Rattle.list_form.specs.FormLaws.{form-fine}
 use Rattle.lists.specs.Lists.{stepFrom, recordIn, refutationIn, RecordForm}
-use Rattle.encoding.specs.Places.{before-between, each-map, each-value, Small, small-append, small-at, small-drop}
-use Rattle.encoding.specs.Numbers.{label, label-bytes, label-back, label-behind, label-again}
+use Rattle.laying.specs.Places.{before-between, each-map, each-value, Small, small-append, small-at, small-drop}
+use Rattle.laying.specs.Numbers.{label, label-bytes, label-back, label-behind, label-again}
 use Rattle.encoding.specs.Bundles.{bundle, Fits, bundle-kind, bundle-head, bundle-small, each-record, records-back, recordsIn, part-small, records-again, bundle-again, bundle-fits}
 use Rattle.encoding.specs.Nodes.{encodeNode, NodeWidth, node-back, node-length, node-form, node-small, node-again, node-width}
 use Rattle.encoding.specs.Steps.{encodeStep, StepWidth, step-back, step-small, StepAgain, step-again}

@@ -18,8 +18,8 @@ use Rattle.refutation.specs.Records.{unshown, cited, contradiction, conjunction
 use Rattle.refutation.specs.RecordTests.{whenCounting}
 use Rattle.list_form.specs.ListForm.{cellOf}
 use Rattle.lists.specs.Lists.{refutationIn}
-use Rattle.encoding.specs.Places.{Byte}
-use Rattle.encoding.specs.Numbers.{label}
+use Rattle.laying.specs.Places.{Byte}
+use Rattle.laying.specs.Numbers.{label}
 use Rattle.encoding.specs.Bundles.{start, bundle}
 use Rattle.encoding.specs.Trees.{encodeTree}
 use Rattle.encoding.specs.Steps.{encodeCell, encodeStep, CellWidth}

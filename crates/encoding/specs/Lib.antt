@@ -1,5 +1,3 @@
-pub mod Places
-pub mod Numbers
 pub mod Bundles
 pub mod Trees
 pub mod Steps

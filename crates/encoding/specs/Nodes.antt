@@ -9,8 +9,8 @@ use Rattle.parts.specs.Numbers.{num2}
 use Rattle.graph.specs.Graphs.{Edge, Node}
 use Rattle.evidence.specs.declared.Layout.{Layout}
 use Rattle.evidence.specs.Evidence.{labelSize, edgeIn, edgesIn, nodeIn, mostEdges, NodeForm}
-use Rattle.encoding.specs.Places.{Stands, first, second, byte, stands-append, stands-more, stands-whole, before, stands-piece, before-all, before-even, stands-flatten, read-off, at-map, each-map, each-value, Small, small-more, small-append, small-flatten, small-at, small-drop}
-use Rattle.encoding.specs.Numbers.{two, label, two-bytes, label-bytes, label-back, label-behind, label-again}
+use Rattle.laying.specs.Places.{Stands, first, second, byte, stands-append, stands-more, stands-whole, before, stands-piece, before-all, before-even, stands-flatten, read-off, at-map, each-map, each-value, Small, small-more, small-append, small-flatten, small-at, small-drop}
+use Rattle.laying.specs.Numbers.{two, label, two-bytes, label-bytes, label-back, label-behind, label-again}
 
 -- the target, the mask, the count
 abbrev pub encodeEdge : Edge → List ℕ

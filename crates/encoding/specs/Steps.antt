@@ -18,7 +18,7 @@ use Rattle.description.specs.Literals.{Literal, pos, code, literal, literal-cod
 use Rattle.refutation.specs.Records.{Cell, unshown, cited, Counting, Step, contradiction, conjunction, disjunction, byRule, caseSplit, counting, FormOk, FormFits}
 use Rattle.refutation.specs.RecordTests.{storedRefutation, whenCounting, formTest, recordForm, form↔}
 use Rattle.list_form.specs.ListForm.{Placed, andThen, given, bytesAt, treeIn, mostDepth, treeAt, cellOf, countingIn, sized, stepOf, stepIn}
-use Rattle.encoding.specs.Places.{Stands, stands-end, first, second, stands-none, stands-append, stands-more, stands-whole, at-map, Byte, Small, small-none, small-more, small-append, small-at, each-map, each-value}
+use Rattle.laying.specs.Places.{Stands, stands-end, first, second, stands-none, stands-append, stands-more, stands-whole, at-map, Byte, Small, small-none, small-more, small-append, small-at, each-map, each-value}
 use Rattle.encoding.specs.Trees.{encodeTree, TreeWidth, bytes-back, bytes-again, tree-back, tree-small, and-then, given-there, Again, tree-again}
 
 -- the record that shows a cell empty, or the open mark

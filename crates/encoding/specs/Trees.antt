@@ -16,8 +16,8 @@ use Rattle.counting.specs.Trees.{Tree, leaf, split, formed, depth}
 use Rattle.list_form.specs.declared.Node.{Node}
 use Rattle.list_form.specs.declared.Node.the-variants.{Leaf, Split, Off}
 use Rattle.list_form.specs.ListForm.{Placed, andThen, given, bytesAt, nodeIn, byNode, leafIn, treeIn}
-use Rattle.encoding.specs.Places.{Stands, first, second, byte, stands-append, stands-more, read-off, map-tabulate, Small, small-more, small-append, small-at, small-in}
-use Rattle.encoding.specs.Numbers.{two, two-bytes}
+use Rattle.laying.specs.Places.{Stands, first, second, byte, stands-append, stands-more, read-off, map-tabulate, Small, small-more, small-append, small-at, small-in}
+use Rattle.laying.specs.Numbers.{two, two-bytes}
 
 -- a leaf is 0 and its multipliers; a split is 1, its cell, its value, its first half and its second
 unfoldable pub encodeTree : Tree → List ℕ

@@ -17,8 +17,8 @@ use Rattle.lines.specs.LineLaws.{back, back-ok}
 use Rattle.intake.specs.Intake.{described, AcceptedBytes, accepted-sizes}
 use Rattle.evidence.specs.Evidence.{layoutOf, graphIn}
 use Rattle.line_reader.specs.Reading.{readAnswer, holds↔}
-use Rattle.answers.specs.Answers.{answer, WRITTEN, HOLDS, told↔}
-use Rattle.line_writer.specs.Writing.{lineOf, lineSize, writeRefused, writeAnswer, writeLength, unlessRefused, bufferAfter, written↔}
+use Rattle.answers.specs.Answers.{answer, WRITTEN, HOLDS, told↔, unlessRefused}
+use Rattle.line_writer.specs.Writing.{lineOf, lineSize, writeRefused, writeAnswer, writeLength, bufferAfter, written↔}
 
 -- the root is a literal of the table
 wanted-in : (d : List ℕ) → AcceptedBytes d → (l : Literal) → l ∈ wanted (described d) → entryOf l < described d .entries

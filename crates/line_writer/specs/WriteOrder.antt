@@ -18,7 +18,7 @@ use Rattle.copies.specs.Copying.{copiesIn, copies-are}
 use Rattle.lines.specs.Lines.{nameSize, lineLength, mostElements, lineBytes}
 use Rattle.answers.specs.declared.Written.{Written}
 use Rattle.answers.specs.declared.Written.the-variants.{Line, Refused}
-use Rattle.answers.specs.Answers.{answer, WRITTEN, ofWritten, lengthOf}
+use Rattle.answers.specs.Answers.{answer, WRITTEN, ofWritten, lengthOf, unlessRefused}
 use Rattle.description.specs.Descriptions.{Description, wanted}
 use Rattle.tables.specs.Tables.{describe}
 use Rattle.roles.specs.Ancestors.{AncestorsOf}
@@ -28,7 +28,7 @@ use Rattle.graph.specs.Line.{copies, line}
 use Rattle.graph_check.specs.GraphEvidence.{graphTests, graphRefused, GraphKept, kept↔}
 use Rattle.graph_check.specs.GraphSteps.{layoutIn, tablesCode}
 use Rattle.graph_check.specs.GraphJoin.{tables-code-is}
-use Rattle.line_writer.specs.Writing.{roomTest, unlessRefused, lineOf, lineSize, writeRefused, writeAnswer, writeLength, bufferAfter}
+use Rattle.line_writer.specs.Writing.{roomTest, lineOf, lineSize, writeRefused, writeAnswer, writeLength, bufferAfter}
 use Rattle.line_writer.specs.WriteBytes.{LaidLine, laid-line}
 
 -- the number of elements, and the length of their line, by the evidence

@@ -8,7 +8,7 @@ use lib.ListN.{length, take, drop}
 use lib.Seq.{length-take-le, take-all, drop-at, getD-take, take-take, take-add}
 use Rattle.parts.specs.Numbers.{num2}
 use Rattle.answers.specs.Answers.{Answer}
-use Rattle.encoding.specs.Places.{Small, small-none, small-more, small-at}
+use Rattle.laying.specs.Places.{Small, small-none, small-more, small-at}
 use Rattle.verdict.specs.Verdict.{verdict}
 use Rattle.demands.specs.Cut.{farthest, cut-answers}
 use Rattle.report.specs.Input.{descriptionIn, evidenceIn}

@@ -7,9 +7,10 @@ use native.Mathlib.Omega.{arith}
 use native.Mathlib.Decide.{decLt}
 use borrow.Author.Tests.{lt-ltb, le-ltb}
 use lib.Dec.{ltb}
-use lib.ListN.{length, take, drop}
+use lib.ListN.{length, drop}
 use Rattle.parts.specs.Numbers.{byteAt}
-use Rattle.answers.specs.Answers.{Word, REFUSED, INHABITED, EMPTY, WRITTEN, HOLDS, FAILS, HOLDS-OF-NOTHING, Answer}
+use Rattle.laying.specs.Laying.{laid}
+use Rattle.answers.specs.Answers.{Word, REFUSED, INHABITED, EMPTY, WRITTEN, HOLDS, FAILS, HOLDS-OF-NOTHING, DONE, Answer}
 
 -- ---- the text
 abbrev pub wordText : Word → List ℕ
@@ -20,6 +21,7 @@ wordText WRITTEN = 87 ∷ 82 ∷ 73 ∷ 84 ∷ 84 ∷ 69 ∷ 78 ∷ []
 wordText HOLDS = 72 ∷ 79 ∷ 76 ∷ 68 ∷ 83 ∷ []
 wordText FAILS = 70 ∷ 65 ∷ 73 ∷ 76 ∷ 83 ∷ []
 wordText HOLDS-OF-NOTHING = 72 ∷ 79 ∷ 76 ∷ 68 ∷ 83 ∷ 32 ∷ 79 ∷ 70 ∷ 32 ∷ 78 ∷ 79 ∷ 84 ∷ 72 ∷ 73 ∷ 78 ∷ 71 ∷ []
+wordText DONE = 68 ∷ 79 ∷ 78 ∷ 69 ∷ []
 
 -- a digit below 10
 abbrev pub digit : ℕ → ℕ
@@ -70,10 +72,6 @@ unfolding textOf decimal
 lines = refl
 
 -- ---- a buffer
--- the text at a place, and all other bytes as before
-unfoldable pub laid : List ℕ → ℕ → List ℕ → List ℕ
-laid old at text = take at old ++ text ++ drop (at + length text) old
-
 -- the text, then the old bytes
 unfoldable pub over : List ℕ → List ℕ → List ℕ
 over text old = text ++ drop (length text) old

@@ -7,10 +7,11 @@ use native.Mathlib.Numerals.{add-one}
 use native.Mathlib.Nat.{zero-add}
 use borrow.Author.Tests.{lt-ltb, le-ltb}
 use lib.ListN.{length, set, take, drop, length-append}
-use lib.Seq.{take-length, take-append-seam, drop-append-add, drop-drop, sets-eq, paste}
+use lib.Seq.{take-append-seam, drop-append-add, drop-drop, sets-eq}
+use Rattle.laying.specs.Laying.{laid}
 use Rattle.answers.specs.Answers.{ofVerdict}
 use Rattle.answers.specs.declared.Verdict.{Verdict}
-use Rattle.report.specs.Text.{digit, decimal, textOf, laid, over, Over, Digits}
+use Rattle.report.specs.Text.{digit, decimal, textOf, over, Over, Digits}
 
 -- ---- texts one after another
 -- the first text, and one at the end of those that are laid
@@ -24,11 +25,6 @@ over-next t u old mid new at end o e q = (
   e ∙ rw (o .0, o .1, take-append-seam t (drop (length t) old), drop-append-add t (drop (length t) old) (length u), drop-drop (length u) (length t) old, length-append t u) refl,
   q ∙ rw (o .1) (sym (length-append t u)),
 )
-
--- a text that is pasted whole
-pub laid-paste : (old text : List ℕ) (at : ℕ) → paste old at text (length text) ≡ laid old at text
-unfolding laid
-laid-paste old text at = rw (take-length text) refl
 
 -- ---- the line of an answer
 -- the buffer's bytes, the length of the line, and the line as a part of the buffer, which lending it asks for

@@ -5,8 +5,10 @@ ghost use lib.ListN.{length, take, replicate};
 ghost use Rattle.answers.specs.Answers.{ofVerdict};
 ghost use Rattle.report.specs.Input.{descriptionIn, evidenceIn};
 ghost use Rattle.report.specs.Cut.{longest};
-ghost use Rattle.report.specs.Text.{textOf, laid, over, Over, Digits};
+ghost use Rattle.laying.specs.Laying.{laid};
+ghost use Rattle.report.specs.Text.{textOf, over, Over, Digits};
 use answers::Verdict;
+use laying::copy_bytes;
 use parts::read2;
 use parts::span;
 
@@ -37,12 +39,8 @@ fn lay(out: &mut [u8], at: usize, text: &[u8]) -> usize
     requires { ⌜ at + length (now text) ≤ length (now out) ⌝ }
     ensures { λ r. ⌜ (now (out .exit) ≡ laid (now (out .entry)) at (now (text .entry))) × (r ≡ at + length (now (text .entry))) ⌝ }
 {
-    let mut i = 0;
-    while i < text.len() {
-        out[at + i] = text[i];
-        i += 1;
-    }
-    at + i
+    copy_bytes(out, at, text);
+    at + text.len()
 }
 
 // Lays the decimal digits of `n` at `at` and returns where they end.

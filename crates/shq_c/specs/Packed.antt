@@ -2,7 +2,7 @@
 use Prim.Native.Nat.{ℕ, _+_, _*_}
 use mathlib.Core.Path.{_≡_}
 use native.Mathlib.Omega.{arith}
-use Rattle.answers.specs.Answers.{Word, REFUSED, INHABITED, EMPTY, WRITTEN, HOLDS, FAILS, HOLDS-OF-NOTHING, Answer}
+use Rattle.answers.specs.Answers.{Word, REFUSED, INHABITED, EMPTY, WRITTEN, HOLDS, FAILS, HOLDS-OF-NOTHING, DONE, Answer}
 
 abbrev pub wordNo : Word → ℕ
 wordNo REFUSED = 0
@@ -12,6 +12,7 @@ wordNo WRITTEN = 3
 wordNo HOLDS = 4
 wordNo FAILS = 5
 wordNo HOLDS-OF-NOTHING = 6
+wordNo DONE = 7
 
 abbrev pub packed : Answer → ℕ
 packed a = wordNo (a .word) * 65536 + (a .number * 256 + a .place)

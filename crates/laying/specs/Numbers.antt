@@ -12,7 +12,7 @@ use lib.Seq.{drop-append-seam}
 use Rattle.parts.specs.Numbers.{byteAt, num2}
 use Rattle.labels.specs.Blocks.{block, block-lt}
 use Rattle.labels.specs.Labels.{labelBytes, num8, labelIn}
-use Rattle.encoding.specs.Places.{Stands, stands-end, first, second, byte, part, stands-none, stands-append, stands-more, Small, small-none, small-more, small-append, small-at}
+use Rattle.laying.specs.Places.{Stands, stands-end, first, second, byte, part, stands-none, stands-append, stands-more, Small, small-none, small-more, small-append, small-at}
 
 abbrev pub two : ℕ → List ℕ
 two n = n / 256 ∷ n % 256 ∷ []

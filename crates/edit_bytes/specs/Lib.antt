@@ -1,0 +1,4 @@
+pub mod Out
+pub mod OutLaws
+pub mod Again
+pub mod Examples
