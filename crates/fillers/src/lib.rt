@@ -30,7 +30,7 @@ use labels::holds;
 use labels::next_rest;
 use labels::put;
 use nodes::opposite;
-use parts::byte;
+use roles::Role;
 use roles::has16;
 use tables::Concept;
 use tables::Count;
@@ -84,13 +84,12 @@ fn has_above(cs: &[u8], x: Label, above: u16, l: u8) -> bool
     false
 }
 
-// Whether `r` is transitive and the label holds "every q l" for an ancestor `q` of `r`.
-pub fn is_carried(rs: &[u8], cs: &[u8], a: [u16; 16], x: Label, r: RoleNo, l: u8) -> bool
-    ensures { λ q. ⌜ q ≡ carried (now (rs .entry)) (now (cs .entry)) a (valueOf x) (r .0) l ⌝ }
+// Whether the role of this record is transitive and the label holds "every q l" for an ancestor `q` of it.
+pub fn is_carried(cs: &[u8], r: Role, x: Label, l: u8) -> bool
+    ensures { λ q. ⌜ q ≡ carried (now (cs .entry)) r (valueOf x) l ⌝ }
 {
-    let role = r.0 as usize;
-    if byte(rs, 3 * role) == 1 {
-        has_above(cs, x, a[role % 16], l)
+    if r.transitive == 1 {
+        has_above(cs, x, r.ancestors, l)
     } else {
         false
     }
@@ -123,28 +122,27 @@ fn sources_above(cs: &[u8], above: u16, l: u8) -> Label
 }
 
 // The sources of entry `e`: none if it is no "every" or its role is not transitive.
-fn sources_at(rs: &[u8], cs: &[u8], a: [u16; 16], e: EntryNo) -> Label
-    ensures { λ q. ⌜ valueOf q ≡ sourcesOf (now (rs .entry)) (now (cs .entry)) a (fieldsAt (now (cs .entry)) (e .0)) ⌝ }
+fn sources_at(t: [Role; 16], cs: &[u8], e: EntryNo) -> Label
+    ensures { λ q. ⌜ valueOf q ≡ sourcesOf t (now (cs .entry)) (fieldsAt (now (cs .entry)) (e .0)) ⌝ }
 {
     let g = fields_at(cs, e);
-    let role = g.role as usize;
-    let transitive = byte(rs, 3 * role);
-    if (g.kind == 3) & (transitive == 1) {
-        sources_above(cs, a[role % 16], g.first)
+    let r = t[(g.role % 16) as usize];
+    if (g.kind == 3) & (r.transitive == 1) {
+        sources_above(cs, r.ancestors, g.first)
     } else {
         empty()
     }
 }
 
 // For each entry "every r l" with `r` transitive, the entries whose presence in a label makes the edges of role `r` carry it on.
-pub fn sources(rs: &[u8], cs: &[u8], a: [u16; 16]) -> [u64; MOST_ENTRIES as usize]
-    ensures { λ q. ⌜ SourcesOf (now (rs .entry)) (now (cs .entry)) a q ⌝ }
+pub fn sources(t: [Role; 16], cs: &[u8]) -> [u64; MOST_ENTRIES as usize]
+    ensures { λ q. ⌜ SourcesOf t (now (cs .entry)) q ⌝ }
 {
     let n = entry_count(cs);
     let mut out: [u64; MOST_ENTRIES as usize] = [0; MOST_ENTRIES as usize];
     let mut e: u8 = 0;
     while e < n {
-        out[e as usize] = entries_of(sources_at(rs, cs, a, EntryNo(e)));
+        out[e as usize] = entries_of(sources_at(t, cs, EntryNo(e)));
         e += 1;
     }
     out

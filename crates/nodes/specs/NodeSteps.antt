@@ -17,7 +17,7 @@ use Rattle.labels.specs.Labels.{mostEntries, mostLiterals, labelWith}
 use Rattle.labels.specs.Words.{unopposed}
 use Rattle.description.specs.Literals.{Literal, opposite, code, literal, entryOf, adding, literalSet, members, code-literal, literal-code, code-entry, within-set}
 use Rattle.description.specs.Descriptions.{Entry, top, name, both, every, atLeast, entryOfFields, ifBoth, wanted}
-use Rattle.tables.specs.Tables.{fieldsAt, describe}
+use Rattle.tables.specs.Tables.{entryCount, fieldsAt, describe}
 use Rattle.tables.specs.Concepts.{conceptOf, conceptAt}
 use Rattle.tables.specs.declared.Concept.{Concept}
 use Rattle.tables.specs.declared.Concept.the-variants.{Top, Name, Both, Every, AtLeast}
