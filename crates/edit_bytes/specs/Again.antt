@@ -23,6 +23,7 @@ use Rattle.editing.specs.Kept.{Few}
 use Rattle.editing.specs.Reach.{made↔}
 use Rattle.edit_bytes.specs.Out.{roleBytes, entryBytes, rolesOut, conceptsOut, queryOut, pair, withPairs, outBytes, whole}
 use Rattle.edit_bytes.specs.OutLaws.{out-tests, out-accepted}
+use Rattle.edit_bytes.specs.OutSmall.{out-small}
 
 abbrev roleOf : List ℕ → ℕ → RoleIn
 roleOf rs r = record { transitive = byteAt rs (3 * r); parents = num2 rs (3 * r + 1) }
@@ -182,6 +183,9 @@ module _ (d : List ℕ) (A : AcceptedBytes d) (small : Small d) where
 pub put-in : (d : List ℕ) → AcceptedBytes d → Small d → (T : Draft) × Made T × So (whole T) × (outBytes T ≡ d)
 put-in d A small = (draftIn d, made-in d A small, whole-in d A small, out-again d A small)
 
--- so the accepted descriptions of three pairs are exactly what the editor writes
-pub out↔ : (d : List ℕ) → Small d → AcceptedBytes d ↔ ((T : Draft) × Made T × So (whole T) × (outBytes T ≡ d))
-out↔ d small = (λ A. put-in d A small, λ t. accepted-bytes↔ d .0 (ap bytesTest (sym (t .3)) ∙ out-accepted (t .0) (t .1) (t .2)))
+-- so the accepted descriptions of three pairs, in bytes, are exactly what the editor writes
+pub out↔ : (d : List ℕ) → (AcceptedBytes d × Small d) ↔ ((T : Draft) × Made T × So (whole T) × (outBytes T ≡ d))
+out↔ d = (
+  λ h. put-in d (h .0) (h .1),
+  λ t. (accepted-bytes↔ d .0 (ap bytesTest (sym (t .3)) ∙ out-accepted (t .0) (t .1) (t .2)), subst Small (t .3) (out-small (t .0) (t .1))),
+)

@@ -1,4 +1,5 @@
 pub mod Out
 pub mod OutLaws
+pub mod OutSmall
 pub mod Again
 pub mod Examples

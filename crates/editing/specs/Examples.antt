@@ -120,6 +120,9 @@ trials =
     -- the same of a concept: 5 of a transitive role and of one above it; 7, and the lower "every" first
     ∷ trial (done (newRole 1) ∷ done (newRole 0) ∷ done (inclusion 0 1) ∷ done top ∷ refused (atLeast 0 0 1) 5 ∷ refused (atLeast 1 0 1) 5
     ∷ refused (every 1 0) 7 ∷ done (every 0 0) ∷ done (every 1 0) ∷ refused (every 1 1) 7 ∷ [])
+    -- 7: two transitive roles, each in the other; their "every" come before the second inclusion, or not at all
+    ∷ trial (done (newRole 1) ∷ done (newRole 1) ∷ done top ∷ done (inclusion 0 1) ∷ done (every 0 0) ∷ refused (inclusion 1 0) 7
+    ∷ done (every 1 0) ∷ done (inclusion 1 0) ∷ refused (every 0 1) 7 ∷ refused (every 1 1) 7 ∷ [])
     -- 4: numbers; 4 before 5, of a role that is not simple
     ∷ trial (done (newRole 0) ∷ done (newRole 1) ∷ done top ∷ done (atLeast 0 0 1000) ∷ refused (atLeast 0 0 1001) 4
     ∷ refused (atLeast 0 0 0) 4 ∷ refused (atLeast 1 0 0) 4 ∷ [])
@@ -138,16 +141,16 @@ trials-hold : map (λ t. answers (t .from) (t .steps)) trials ≡ map (λ t. map
 unfolding trials answers times refusal broken allBelow anyBelow narrow entryTest literal entryFrom ifLeast ifEvery simple ancestor closure has with sameEntry
 trials-hold = refl
 
--- ---- what is there afterwards: the own bit; a bit set twice; nothing of what was refused; the last root;
+-- ---- what is there afterwards: the own bit; two bits, one set twice; nothing of what was refused; the last root;
 -- the rules in order, one of them before the root
 drafts : map (after nothing) (
     (done (newRole 0) ∷ done (inclusion 0 0) ∷ [])
-    ∷ (done (newRole 1) ∷ done (newRole 0) ∷ done (inclusion 1 0) ∷ done (inclusion 1 0) ∷ refused (inclusion 1 2) 3 ∷ [])
+    ∷ (done (newRole 1) ∷ done (newRole 0) ∷ done (inclusion 1 0) ∷ done (inclusion 1 0) ∷ done (inclusion 1 1) ∷ refused (inclusion 1 2) 3 ∷ [])
     ∷ (done top ∷ refused top 4 ∷ done (newRule 1) ∷ done (newRoot 0) ∷ done (newRoot 1) ∷ refused (newRoot 2) 8 ∷ done (newRule 0) ∷ [])
     ∷ []
     ) ≡ (
     record { roles = role 0 1 ∷ []; entries = []; root = none; rules = [] }
-    ∷ record { roles = role 1 0 ∷ role 0 1 ∷ []; entries = []; root = none; rules = [] }
+    ∷ record { roles = role 1 0 ∷ role 0 3 ∷ []; entries = []; root = none; rules = [] }
     ∷ record {
       roles = [];
       entries = topFields ∷ [];
