@@ -1,12 +1,12 @@
-// Tests 9 to 15 of a graph, for any wanted literals; and of a plain question, after those of the tables.
+// Tests 9 to 15 of a graph, for any wanted literals, and for those of a plain question.
 ghost use mathlib.Core.Path.{_≡_};
 ghost use mathlib.Core.Option.{none};
 ghost use Rattle.logic.specs.Refusals.{refuse, refuseFrom};
 ghost use Rattle.labels.specs.Labels.{valueOf};
 ghost use Rattle.answers.specs.Answers.{refusalOf};
 ghost use Rattle.evidence.specs.Evidence.{labelOf};
-ghost use Rattle.fillers.specs.Sources.{SourcesOf};
-ghost use Rattle.graph_check.specs.GraphSteps.{formCode, formOf, needOf, nodeCode, recordNeeds, recordCode, recordsCode, graphCode, tablesCode};
+ghost use Rattle.nodes.specs.NodeSteps.{rootSet};
+ghost use Rattle.graph_check.specs.GraphSteps.{formCode, formOf, needOf, nodeWith, recordWith, recordCode, recordsCode, graphCode};
 use answers::Tested;
 use edges::edges_ok;
 use evidence::Head;
@@ -18,7 +18,6 @@ use evidence::record_edges;
 use evidence::record_label;
 use fillers::sources;
 use fillers::test_fillers;
-use intake::test_tables;
 use labels::Label;
 use labels::MOST_ENTRIES;
 use labels::empty;
@@ -27,6 +26,8 @@ use nodes::label_ok;
 use nodes::required;
 use nodes::root_set;
 use parts::read2;
+use roles::Role;
+use roles::ancestors_of;
 
 // Test 10 of record `i`.
 fn form_ok(s: &[u8], i: u8, f: Layout) -> bool
@@ -57,11 +58,11 @@ fn need_of(first: Label, later: Label, i: u8) -> Label
 }
 
 // Rules 11 to 15 of record `i`, which is to have `need`, whose label is `x` and whose edges are `es`, in a graph of `n` records, with the
-// table of sources.
+// ancestors of each of so many roles and the table of sources.
 fn test_node(
-    rs: &[u8],
+    a: &[u16; 16],
+    roles: u8,
     cs: &[u8],
-    a: [u16; 16],
     src: &[u64; MOST_ENTRIES as usize],
     need: Label,
     s: &[u8],
@@ -71,8 +72,7 @@ fn test_node(
     es: &[u8],
     f: Layout,
 ) -> Tested
-    requires { ⌜ SourcesOf (now rs) (now cs) a (now src) ⌝ }
-    ensures { λ r. ⌜ refusalOf r ≡ refuse i (nodeCode (now (rs .entry)) (now (cs .entry)) a (valueOf need) (labelOf f (now (s .entry))) n (valueOf x) (now (es .entry))) none ⌝ }
+    ensures { λ r. ⌜ refusalOf r ≡ refuse i (nodeWith (now (a .entry)) roles (now (cs .entry)) (now (src .entry)) (valueOf need) (labelOf f (now (s .entry))) n (valueOf x) (now (es .entry))) none ⌝ }
 {
     if !label_ok(cs, x, need) {
         return Tested::Refused(11, i);
@@ -80,7 +80,7 @@ fn test_node(
     if !boths_ok(cs, x) {
         return Tested::Refused(12, i);
     }
-    if !edges_ok(es, a, rs.len() / 3, n) {
+    if !edges_ok(es, a, roles, n) {
         return Tested::Refused(13, i);
     }
     test_fillers(cs, src, s, i, x, es, f)
@@ -88,9 +88,9 @@ fn test_node(
 
 // The same, with the record read.
 fn test_record(
-    rs: &[u8],
+    a: &[u16; 16],
+    roles: u8,
     cs: &[u8],
-    a: [u16; 16],
     src: &[u64; MOST_ENTRIES as usize],
     need: Label,
     s: &[u8],
@@ -98,13 +98,12 @@ fn test_record(
     i: u8,
     f: Layout,
 ) -> Tested
-    requires { ⌜ SourcesOf (now rs) (now cs) a (now src) ⌝ }
-    ensures { λ r. ⌜ refusalOf r ≡ refuse i (recordNeeds (now (rs .entry)) (now (cs .entry)) a (valueOf need) f (now (s .entry)) n i) none ⌝ }
+    ensures { λ r. ⌜ refusalOf r ≡ refuse i (recordWith (now (a .entry)) roles (now (cs .entry)) (now (src .entry)) (valueOf need) f (now (s .entry)) n i) none ⌝ }
 {
     test_node(
-        rs,
-        cs,
         a,
+        roles,
+        cs,
         src,
         need,
         s,
@@ -116,27 +115,29 @@ fn test_record(
     )
 }
 
-// Rules 11 to 15 of the `n` records; here and below, `want` is wanted of record 0.
+// Rules 11 to 15 of the `n` records; here and below, `t` has the records of so many roles, and `want` is wanted of record 0. Rule 13 goes over
+// the ancestors of all roles for each edge: they are read out of the records once.
 fn test_records(
-    rs: &[u8],
+    t: [Role; 16],
+    roles: u8,
     cs: &[u8],
     qs: &[u8],
-    a: [u16; 16],
     want: Label,
     s: &[u8],
     n: u8,
     f: Layout,
 ) -> Tested
-    ensures { λ r. ⌜ refusalOf r ≡ refuseFrom (recordCode (now (rs .entry)) (now (cs .entry)) (now (qs .entry)) a (valueOf want) f (now (s .entry)) n) n 0 none ⌝ }
+    ensures { λ r. ⌜ refusalOf r ≡ refuseFrom (recordCode t roles (now (cs .entry)) (now (qs .entry)) (valueOf want) f (now (s .entry)) n) n 0 none ⌝ }
 {
-    let src = sources(rs, cs, a);
+    let a = ancestors_of(t);
+    let src = sources(t, cs);
     let first = required(qs, want);
     let later = required(qs, empty());
     let mut i: u8 = 0;
     while i < n {
-        let t = test_record(rs, cs, a, &src, need_of(first, later, i), s, n, i, f);
-        let Tested::Fine = t else {
-            return t;
+        let tested = test_record(&a, roles, cs, &src, need_of(first, later, i), s, n, i, f);
+        let Tested::Fine = tested else {
+            return tested;
         };
         i += 1;
     }
@@ -144,36 +145,32 @@ fn test_records(
 }
 
 // Tests 10 to 15 of the `n` records.
-fn test_all(rs: &[u8], cs: &[u8], qs: &[u8], a: [u16; 16], want: Label, s: &[u8], n: u8) -> Tested
-    ensures { λ r. ⌜ refusalOf r ≡ recordsCode (now (rs .entry)) (now (cs .entry)) (now (qs .entry)) a (valueOf want) (now (s .entry)) n ⌝ }
+fn test_all(t: [Role; 16], roles: u8, cs: &[u8], qs: &[u8], want: Label, s: &[u8], n: u8) -> Tested
+    ensures { λ r. ⌜ refusalOf r ≡ recordsCode t roles (now (cs .entry)) (now (qs .entry)) (valueOf want) (now (s .entry)) n ⌝ }
 {
     let f = layout_of(cs);
-    let t = test_forms(s, n, f);
-    let Tested::Fine = t else {
-        return t;
+    let tested = test_forms(s, n, f);
+    let Tested::Fine = tested else {
+        return tested;
     };
-    test_records(rs, cs, qs, a, want, s, n, f)
+    test_records(t, roles, cs, qs, want, s, n, f)
 }
 
-// Tests 9 to 15 of the graph `s`, whose record 0 is to have `want`, if `a` holds the ancestors of each role.
-pub fn test_graph(rs: &[u8], cs: &[u8], qs: &[u8], a: [u16; 16], want: Label, s: &[u8]) -> Tested
-    ensures { λ r. ⌜ refusalOf r ≡ graphCode (now (rs .entry)) (now (cs .entry)) (now (qs .entry)) a (valueOf want) (now (s .entry)) ⌝ }
+// Tests 9 to 15 of the graph `s`, whose record 0 is to have `want`.
+pub fn test_graph(t: [Role; 16], roles: u8, cs: &[u8], qs: &[u8], want: Label, s: &[u8]) -> Tested
+    ensures { λ r. ⌜ refusalOf r ≡ graphCode t roles (now (cs .entry)) (now (qs .entry)) (valueOf want) (now (s .entry)) ⌝ }
 {
     let head = read_head(s);
     match head {
-        Head::GraphOf(n) => test_all(rs, cs, qs, a, want, s, n),
+        Head::GraphOf(n) => test_all(t, roles, cs, qs, want, s, n),
         Head::RefutationOf(_) => Tested::Refused(9, 0),
         Head::Off => Tested::Refused(9, 0),
     }
 }
 
-// Tests 2 to 15 of a plain question, with the same table of ancestors.
-pub fn test_sample(rs: &[u8], cs: &[u8], qs: &[u8], a: [u16; 16], s: &[u8]) -> Tested
-    ensures { λ r. ⌜ refusalOf r ≡ tablesCode (now (rs .entry)) (now (cs .entry)) (now (qs .entry)) a (now (s .entry)) ⌝ }
+// The same for a plain question, which wants the root.
+pub fn test_sample(t: [Role; 16], roles: u8, cs: &[u8], qs: &[u8], s: &[u8]) -> Tested
+    ensures { λ r. ⌜ refusalOf r ≡ graphCode t roles (now (cs .entry)) (now (qs .entry)) (rootSet (now (qs .entry))) (now (s .entry)) ⌝ }
 {
-    let t = test_tables(rs, cs, qs, a);
-    let Tested::Fine = t else {
-        return t;
-    };
-    test_graph(rs, cs, qs, a, root_set(qs), s)
+    test_graph(t, roles, cs, qs, root_set(qs), s)
 }

@@ -1,4 +1,4 @@
-use mathlib.Core.Path.{sym, _∙_, ap}
+use mathlib.Core.Path.{_∙_, sym, ap}
 use Rattle.labels.specs.Labels.{valueOf}
 use Rattle.answers.specs.Answers.{refusalOf}
 use Rattle.graph_check.specs.GraphSteps.{forms-stop, forms-on}
@@ -24,17 +24,13 @@ enum-told-2 : tie.Need-enum-told-2
 enum-told-2 c = search needs
 
 returns : tie.Need-returns
-returns c = let g = c .before .before .before .before .before .before .before .before .args in
-    ap refusalOf (c .enum-told2 .given .1) ∙ forms-stop (g .rs .now) (g .cs .now) (g .qs .now) (g .a) (valueOf (g .want)) (g .s .now) (g .n) _ (c .before .before .before .layout-of .ensures) _
-    (sym (c .before .before .test-forms .ensures) ∙ ap refusalOf (c .enum-told2 .given .1))
+returns c = ap refusalOf (c .enum-told2 .given .1) ∙ forms-stop (c .before .before .before .before .before .before .before .args .t) (c .before .before .before .before .before .before .before .args .roles) (c .before .before .before .before .before .before .before .args .cs .now) (c .before .before .before .before .before .before .before .args .qs .now) (valueOf (c .before .before .before .before .before .before .before .args .want)) (c .before .before .before .before .before .before .before .args .s .now) (c .before .before .before .before .before .before .before .args .n) _ (c .before .before .before .layout-of .ensures) _ (sym (c .before .before .test-forms .ensures) ∙ ap refusalOf (c .enum-told2 .given .1))
 
 test-records-requires : tie.Need-test-records-requires
 test-records-requires c κs = search needs
 
 returns-2 : tie.Need-returns-2
-returns-2 c = let g = c .before .before .before .before .before .before .before .before .before .args in
-    c .test-records .ensures ∙ forms-on (g .rs .now) (g .cs .now) (g .qs .now) (g .a) (valueOf (g .want)) (g .s .now) (g .n) _ (c .before .before .before .before .layout-of .ensures)
-    (sym (c .before .before .before .test-forms .ensures) ∙ ap refusalOf (c .before .enum-told .given .1))
+returns-2 c = c .test-records .ensures ∙ forms-on (c .before .before .before .before .before .before .before .before .args .t) (c .before .before .before .before .before .before .before .before .args .roles) (c .before .before .before .before .before .before .before .before .args .cs .now) (c .before .before .before .before .before .before .before .before .args .qs .now) (valueOf (c .before .before .before .before .before .before .before .before .args .want)) (c .before .before .before .before .before .before .before .before .args .s .now) (c .before .before .before .before .before .before .before .before .args .n) _ (c .before .before .before .before .layout-of .ensures) (sym (c .before .before .before .test-forms .ensures) ∙ ap refusalOf (c .before .enum-told .given .1))
 
 pub test-all-spec : {M : Type 1} → statement M
 test-all-spec =

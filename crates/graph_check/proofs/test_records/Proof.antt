@@ -1,12 +1,12 @@
-use Prim.Native.Nat.{_-_, _<_, _≤_}
-use mathlib.Core.Path.{_≡_, sym, _∙_, ap, ap₂}
-use native.Mathlib.Omega.{arith}
+use Prim.Native.Nat.{_-_, _≤_, _<_}
+use mathlib.Core.Path.{_≡_, _∙_, sym, ap, ap₂}
 use mathlib.Core.Option.{none}
-use Rattle.labels.specs.Labels.{valueOf}
-use Rattle.answers.specs.Answers.{refusalOf}
 use Rattle.logic.specs.Refusals.{refuse, refuseFrom, records-start, records-stop, records-on, records-end}
+use Rattle.labels.specs.Labels.{valueOf}
 use Rattle.nodes.specs.NodeSteps.{requiredSet}
-use Rattle.graph_check.specs.GraphSteps.{recordNeeds, recordFor}
+use Rattle.answers.specs.Answers.{refusalOf}
+use Rattle.graph_check.specs.GraphSteps.{recordWith, recordsWith, recordFor, records-with}
+use native.Mathlib.Omega.{arith}
 use borrow.Author.Needs.{needs}
 use Rattle.graph_check.proofs.test_records.Statement.{statement}
 use Rattle.graph_check.proofs.test_records.Tie as tie
@@ -17,13 +17,16 @@ use Rattle.graph_check.proofs.need_of.Reads as need-of-reads
 use Rattle.graph_check.proofs.test_record.Reads as test-record-reads
 use Rattle.labels.proofs.empty.Reads as empty-reads
 use Rattle.nodes.proofs.required.Reads as required-reads
+use Rattle.roles.proofs.ancestors_of.Reads as ancestors-of-reads
 
 abbrev Inv-loop : tie.InvT-loop
-Inv-loop rs cs qs a s n f src first later i₀ i = let code = recordFor rs cs a (valueOf first) (valueOf later) f s n in
-    (i ≤ n) × (n < 256) × (refuseFrom code (n - i) i none ≡ refuseFrom code n 0 none)
+Inv-loop roles cs qs s n f a src first later i₀ i = let code = recordsWith a roles cs src (valueOf first) (valueOf later) f s n in (i ≤ n) × (n < 256) × (refuseFrom code (n - i) i none ≡ refuseFrom code n 0 none)
 
 abbrev μ-loop : tie.MeasureT-loop
-μ-loop rs cs qs a s n f src first later i₀ i = n - i
+μ-loop roles cs qs s n f a src first later i₀ i = n - i
+
+ancestors-of-requires : tie.Need-ancestors-of-requires Inv-loop μ-loop
+ancestors-of-requires c κs = search needs
 
 sources-requires : tie.Need-sources-requires Inv-loop μ-loop
 sources-requires c κs = search needs
@@ -44,7 +47,7 @@ need-of-requires : tie.Need-need-of-requires Inv-loop μ-loop
 need-of-requires c κs = search needs
 
 test-record-requires : tie.Need-test-record-requires Inv-loop μ-loop
-test-record-requires c κs = c .before .before .before .before .before .before .before .sources .ensures
+test-record-requires c κs = search needs
 
 enum-told : tie.Need-enum-told Inv-loop μ-loop
 enum-told c = search needs
@@ -53,12 +56,7 @@ enum-told-2 : tie.Need-enum-told-2 Inv-loop μ-loop
 enum-told-2 c = search needs
 
 returns : tie.Need-returns Inv-loop μ-loop
-returns c = let g = c .before .before .before .before .before .before .before .before .before .before .before .before .before .before .before .args in let l = c .before .before .before .before .before .before .loop in
-    ap refusalOf (c .enum-told2 .given .1) ∙ sym (records-stop _ _ _ (l .i) _ (omega arith)
-    (sym (ap (λ K. refuse (l .i) (recordNeeds (g .rs .now) (g .cs .now) (g .a) K (g .f) (g .s .now) (g .n) (l .i)) none) (c .before .before .before .need-of .ensures))
-    ∙ sym (c .before .before .test-record .ensures) ∙ ap refusalOf (c .enum-told2 .given .1))) ∙ l .inv .2
-    ∙ ap₂ (λ first later. refuseFrom (recordFor (g .rs .now) (g .cs .now) (g .a) first later (g .f) (g .s .now) (g .n)) (g .n) 0 none)
-    (c .before .before .before .before .before .before .before .before .before .required .ensures) (c .before .before .before .before .before .before .before .required2 .ensures ∙ ap (requiredSet (g .qs .now)) (c .before .before .before .before .before .before .before .before .empty .ensures))
+returns c = ap refusalOf (c .enum-told2 .given .1) ∙ sym (records-stop _ _ _ (c .before .before .before .before .before .before .before .loop .i) _ (omega arith) (sym (ap (λ K. refuse (c .before .before .before .before .before .before .before .loop .i) (recordWith (c .before .before .before .before .before .before .before .before .before .before .before .before .ancestors-of .result) (c .before .before .before .before .before .before .before .before .before .before .before .before .before .before .before .before .args .roles) (c .before .before .before .before .before .before .before .before .before .before .before .before .before .before .before .before .args .cs .now) (c .before .before .before .before .before .before .before .before .before .before .before .sources .result) K (c .before .before .before .before .before .before .before .before .before .before .before .before .before .before .before .before .args .f) (c .before .before .before .before .before .before .before .before .before .before .before .before .before .before .before .before .args .s .now) (c .before .before .before .before .before .before .before .before .before .before .before .before .before .before .before .before .args .n) (c .before .before .before .before .before .before .before .loop .i)) none) (c .before .before .before .need-of .ensures)) ∙ sym (c .before .before .test-record .ensures) ∙ ap refusalOf (c .enum-told2 .given .1))) ∙ c .before .before .before .before .before .before .before .loop .inv .2 ∙ records-with (c .before .before .before .before .before .before .before .before .before .before .before .before .before .before .before .before .args .t) _ (c .before .before .before .before .before .before .before .before .before .before .before .before .before .before .before .before .args .roles) (c .before .before .before .before .before .before .before .before .before .before .before .before .before .before .before .before .args .cs .now) (c .before .before .before .before .before .before .before .before .before .before .before .sources .result) _ _ (c .before .before .before .before .before .before .before .before .before .before .before .before .before .before .before .before .args .f) (c .before .before .before .before .before .before .before .before .before .before .before .before .before .before .before .before .args .s .now) (c .before .before .before .before .before .before .before .before .before .before .before .before .before .before .before .before .args .n) (c .before .before .before .before .before .before .before .before .before .before .before .before .ancestors-of .ensures) (c .before .before .before .before .before .before .before .before .before .before .before .sources .ensures) ∙ ap₂ (λ first later. refuseFrom (recordFor (c .before .before .before .before .before .before .before .before .before .before .before .before .before .before .before .before .args .t) (c .before .before .before .before .before .before .before .before .before .before .before .before .before .before .before .before .args .roles) (c .before .before .before .before .before .before .before .before .before .before .before .before .before .before .before .before .args .cs .now) first later (c .before .before .before .before .before .before .before .before .before .before .before .before .before .before .before .before .args .f) (c .before .before .before .before .before .before .before .before .before .before .before .before .before .before .before .before .args .s .now) (c .before .before .before .before .before .before .before .before .before .before .before .before .before .before .before .before .args .n)) (c .before .before .before .before .before .before .before .before .before .before .before .before .before .before .before .before .args .n) 0 none) (c .before .before .before .before .before .before .before .before .before .before .required .ensures) (c .before .before .before .before .before .before .before .before .required2 .ensures ∙ ap (requiredSet (c .before .before .before .before .before .before .before .before .before .before .before .before .before .before .before .before .args .qs .now)) (c .before .before .before .before .before .before .before .before .before .empty .ensures))
 
 add-i : tie.Need-add-i Inv-loop μ-loop
 add-i c = omega arith
@@ -67,19 +65,10 @@ loop-less : tie.Need-loop-less Inv-loop μ-loop
 loop-less c = omega arith
 
 loop-again : tie.Need-loop-again Inv-loop μ-loop
-loop-again c = let g = c .before .before .before .before .before .before .before .before .before .before .before .before .before .before .before .args in let l = c .before .before .before .before .before .before .loop in (
-  omega arith,
-  l .inv .1,
-  sym (records-on _ _ _ (l .i) (omega arith)
-      (sym (ap (λ K. refuse (l .i) (recordNeeds (g .rs .now) (g .cs .now) (g .a) K (g .f) (g .s .now) (g .n) (l .i)) none) (c .before .before .before .need-of .ensures))
-      ∙ sym (c .before .before .test-record .ensures) ∙ ap refusalOf (c .enum-told .given .1))) ∙ l .inv .2,
-)
+loop-again c = (omega arith, c .before .before .before .before .before .before .before .loop .inv .1, sym (records-on _ _ _ (c .before .before .before .before .before .before .before .loop .i) (omega arith) (sym (ap (λ K. refuse (c .before .before .before .before .before .before .before .loop .i) (recordWith (c .before .before .before .before .before .before .before .before .before .before .before .before .ancestors-of .result) (c .before .before .before .before .before .before .before .before .before .before .before .before .before .before .before .before .args .roles) (c .before .before .before .before .before .before .before .before .before .before .before .before .before .before .before .before .args .cs .now) (c .before .before .before .before .before .before .before .before .before .before .before .sources .result) K (c .before .before .before .before .before .before .before .before .before .before .before .before .before .before .before .before .args .f) (c .before .before .before .before .before .before .before .before .before .before .before .before .before .before .before .before .args .s .now) (c .before .before .before .before .before .before .before .before .before .before .before .before .before .before .before .before .args .n) (c .before .before .before .before .before .before .before .loop .i)) none) (c .before .before .before .need-of .ensures)) ∙ sym (c .before .before .test-record .ensures) ∙ ap refusalOf (c .enum-told .given .1))) ∙ c .before .before .before .before .before .before .before .loop .inv .2)
 
 returns-2 : tie.Need-returns-2 Inv-loop μ-loop
-returns-2 c = let g = c .before .before .before .before .before .before .before .before .before .before .args in let l = c .before .loop in
-    sym (records-end _ _ _ (l .i) (omega arith)) ∙ l .inv .2
-    ∙ ap₂ (λ first later. refuseFrom (recordFor (g .rs .now) (g .cs .now) (g .a) first later (g .f) (g .s .now) (g .n)) (g .n) 0 none)
-    (c .before .before .before .before .required .ensures) (c .before .before .required2 .ensures ∙ ap (requiredSet (g .qs .now)) (c .before .before .before .empty .ensures))
+returns-2 c = sym (records-end _ _ _ (c .before .loop .i) (omega arith)) ∙ c .before .loop .inv .2 ∙ records-with (c .before .before .before .before .before .before .before .before .before .before .args .t) _ (c .before .before .before .before .before .before .before .before .before .before .args .roles) (c .before .before .before .before .before .before .before .before .before .before .args .cs .now) (c .before .before .before .before .before .sources .result) _ _ (c .before .before .before .before .before .before .before .before .before .before .args .f) (c .before .before .before .before .before .before .before .before .before .before .args .s .now) (c .before .before .before .before .before .before .before .before .before .before .args .n) (c .before .before .before .before .before .before .ancestors-of .ensures) (c .before .before .before .before .before .sources .ensures) ∙ ap₂ (λ first later. refuseFrom (recordFor (c .before .before .before .before .before .before .before .before .before .before .args .t) (c .before .before .before .before .before .before .before .before .before .before .args .roles) (c .before .before .before .before .before .before .before .before .before .before .args .cs .now) first later (c .before .before .before .before .before .before .before .before .before .before .args .f) (c .before .before .before .before .before .before .before .before .before .before .args .s .now) (c .before .before .before .before .before .before .before .before .before .before .args .n)) (c .before .before .before .before .before .before .before .before .before .before .args .n) 0 none) (c .before .before .before .before .required .ensures) (c .before .before .required2 .ensures ∙ ap (requiredSet (c .before .before .before .before .before .before .before .before .before .before .args .qs .now)) (c .before .before .before .empty .ensures))
 
 pub test-records-spec : {M : Type 1} → statement M
 test-records-spec =
@@ -87,6 +76,7 @@ test-records-spec =
     (tie.spec
     Inv-loop
     μ-loop
+    ancestors-of-requires
     sources-requires
     required-requires
     empty-requires
