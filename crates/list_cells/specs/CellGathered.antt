@@ -17,6 +17,7 @@ use Rattle.description.specs.Literals.{opposite, code}
 use Rattle.description.specs.Descriptions.{entryOfFields}
 use Rattle.tables.specs.Tables.{fieldsAt}
 use Rattle.tables.specs.Tables.{entryCount}
+use Rattle.roles.specs.declared.Role.{Role}
 use Rattle.refutation.specs.Cells.{Row}
 use Rattle.cell_walk.specs.Walks.{rowGives, rolesIn}
 use Rattle.rows.specs.declared.Row as Held
@@ -31,7 +32,7 @@ only-has : (b : Bool) (n l : ℕ) → So (has (only b n) l) → So b × So (has 
 only-has true n l u = (refl, u)
 only-has false n l u = absurd (no-member l u)
 
-module _ (a : List ℕ) (rows : List Held.Row) (k : ℕ) (few : k ≤ 6) (above : List ℕ)
+module _ (a : List Role) (rows : List Held.Row) (k : ℕ) (few : k ≤ 6) (above : List ℕ)
     (B : Masks (λ i. aboveOf a (given (heldAt rows i))) k above) where
   abbrev row : ℕ → Row
   row i = given (heldAt rows i)
@@ -73,14 +74,14 @@ module _ (a : List ℕ) (rows : List Held.Row) (k : ℕ) (few : k ≤ 6) (above 
         p = rowGives above c t
 
   -- ---- what a cell shows
-  module _ (rs cs : List ℕ) (N : ℕ) (shown : List Label) (against own : List ℕ)
-      (S : Labels (λ i. shownBy cs a N (carriedAt rs cs a N) (given (heldAt rows i))) k shown)
+  module _ (cs : List ℕ) (N : ℕ) (shown : List Label) (against own : List ℕ)
+      (S : Labels (λ i. shownBy cs a N (carriedAt cs a N) (given (heldAt rows i))) k shown)
       (G : Masks (λ i. deniedBy (given (heldAt rows i))) k against)
       (O : Masks (λ i. bitOf (given (heldAt rows i))) k own)
       (words : (i : ℕ) → i < 6 → maskAt above i < 65536) where
     -- the entries that are carried on
     abbrev on : ℕ → Bool
-    on = carriedAt rs cs a N
+    on = carriedAt cs a N
 
     -- an element of each array, with what is in it
     shown↔ : (i l : ℕ) → i < 6 → So (has (labelAt shown i) l) ↔ ((i < k) × (l < room) × So (showsOwn cs a N on (row i) l))
@@ -201,6 +202,6 @@ module _ (a : List ℕ) (rows : List Held.Row) (k : ℕ) (few : k ≤ 6) (above 
     module _ (num : ℕ → ℕ) (ds : List ℕ) where
       -- the test of a cell by the arrays is that by the rows, where k is m
       pub cell-told : (m : ℕ) → k ≡ m → (c : ℕ)
-          → gatheredOn num above own shown against ds k c ≡ cellFine rs cs a num N (rowsHeld rows m) ds m c
-      cell-told m e c = subst (λ m. gatheredOn num above own shown against ds k c ≡ cellFine rs cs a num N (rowsHeld rows m) ds m c) e
+          → gatheredOn num above own shown against ds k c ≡ cellFine cs a num N (rowsHeld rows m) ds m c
+      cell-told m e c = subst (λ m. gatheredOn num above own shown against ds k c ≡ cellFine cs a num N (rowsHeld rows m) ds m c) e
           (ap (λ M. ltb 0 c ⇒ citedIn num M (byteAt ds (1 + k + c))) (known-gathered c))

@@ -30,6 +30,7 @@ use labels::put;
 use nodes::opposite;
 use parts::byte;
 use parts::up_to;
+use roles::Role;
 use roles::has16;
 use rows::Row;
 use rows::cell_count;
@@ -62,11 +63,12 @@ fn mask(x: u16) -> u16
 }
 
 // What a row gives to the cells, if it is `there`: the ancestors of its role,
-fn above_by(a: [u16; 16], row: Row, there: bool) -> u16
-    ensures { λ r. ⌜ (r ≡ onlyIf there (aboveOf a (given row))) × (r < 65536) ⌝ }
+fn above_by(table: [Role; 16], row: Row, there: bool) -> u16
+    ensures { λ r. ⌜ (r ≡ onlyIf there (aboveOf table (given row))) × (r < 65536) ⌝ }
 {
     if there {
-        mask(a[(row.role.0 % 16) as usize])
+        let r = table[(row.role.0 % 16) as usize];
+        mask(r.ancestors)
     } else {
         0
     }
@@ -99,14 +101,14 @@ fn qualified_by(row: Row, there: bool) -> Label
 
 // The ancestors of the role of each of the first `k` rows. These loops go to 6 and not to `k`: so known a number is unrolled,
 // and the array lies in no memory of its own.
-fn above_of(a: [u16; 16], rows: [Row; 6], k: u8) -> [u16; 6]
+fn above_of(table: [Role; 16], rows: [Row; 6], k: u8) -> [u16; 6]
     requires { ⌜ k ≤ 6 ⌝ }
-    ensures { λ r. ⌜ Masks (λ i. aboveOf a (given (heldAt rows i))) k r × ((i : ℕ) → i < 6 → maskAt r i < 65536) ⌝ }
+    ensures { λ r. ⌜ Masks (λ i. aboveOf table (given (heldAt rows i))) k r × ((i : ℕ) → i < 6 → maskAt r i < 65536) ⌝ }
 {
     let mut out: [u16; 6] = [0; 6];
     let mut i: u8 = 0;
     while i < 6 {
-        out[i as usize] = above_by(a, row_at(rows, k, i), i < k);
+        out[i as usize] = above_by(table, row_at(rows, k, i), i < k);
         i += 1;
     }
     out
@@ -157,12 +159,12 @@ fn qualified_of(rows: [Row; 6], k: u8) -> [Label; 6]
 
 // What "every t l", entry `f`, shows of a cell that has the role: `l` if the label `x` holds the entry,
 // and itself if the label carries it on.
-fn passed_by(rs: &[u8], cs: &[u8], a: [u16; 16], x: Label, f: EntryNo, t: RoleNo, l: u8) -> Label
+fn passed_by(cs: &[u8], t: Role, x: Label, f: EntryNo, l: u8) -> Label
     requires { ⌜ f .0 < mostEntries ⌝ }
-    ensures { λ r. ⌜ Puts 0 (valueOf r) (passes (valueOf x) (carried (now (rs .entry)) (now (cs .entry)) a (valueOf x) (t .0) l) true (f .0) l) ⌝ }
+    ensures { λ r. ⌜ Puts 0 (valueOf r) (passes (valueOf x) (carried (now (cs .entry)) t (valueOf x) l) true (f .0) l) ⌝ }
 {
     let held = holds(x, 2 * f.0);
-    let on = is_carried(rs, cs, a, x, t, l);
+    let on = is_carried(cs, t, x, l);
     let out = put_if(empty(), l, held);
     put_if(out, 2 * f.0, on)
 }
@@ -185,19 +187,21 @@ fn with_passed(old: [Label; 6], above: [u16; 6], t: RoleNo, y: Label) -> [Label;
 // Each label with what entry `f` shows of a cell of the row.
 fn with_every(
     old: [Label; 6],
-    rs: &[u8],
     cs: &[u8],
-    a: [u16; 16],
+    table: [Role; 16],
     x: Label,
     above: [u16; 6],
     f: EntryNo,
 ) -> [Label; 6]
     requires { ⌜ (length old ≡ 6) × (f .0 < mostEntries) ⌝ }
-    ensures { λ r. ⌜ Grown old r (entryShows (now (rs .entry)) (now (cs .entry)) a (valueOf x) above (f .0)) ⌝ }
+    ensures { λ r. ⌜ Grown old r (entryShows (now (cs .entry)) table (valueOf x) above (f .0)) ⌝ }
 {
     let c = concept_at(cs, f);
     match c {
-        Concept::Every(t, l) => with_passed(old, above, t, passed_by(rs, cs, a, x, f, t, l)),
+        Concept::Every(t, l) => {
+            let r = table[(t.0 % 16) as usize];
+            with_passed(old, above, t, passed_by(cs, r, x, f, l))
+        }
         Concept::Top => old,
         Concept::Name => old,
         Concept::Both(_, _) => old,
@@ -208,22 +212,21 @@ fn with_every(
 // What each of the first `k` rows shows of its own cells; `above` has the ancestors of their roles.
 // The entries are walked once, not once a row; for each "every" of a transitive role once more (`is_carried`).
 fn shown_of(
-    rs: &[u8],
     cs: &[u8],
-    a: [u16; 16],
+    table: [Role; 16],
     x: Label,
     rows: [Row; 6],
     k: u8,
     above: [u16; 6],
 ) -> [Label; 6]
-    requires { ⌜ (k ≤ 6) × Masks (λ i. aboveOf a (given (heldAt rows i))) k above ⌝ }
-    ensures { λ r. ⌜ Labels (λ i. shownBy (now (cs .entry)) a (valueOf x) (carriedAt (now (rs .entry)) (now (cs .entry)) a (valueOf x)) (given (heldAt rows i))) k r ⌝ }
+    requires { ⌜ (k ≤ 6) × Masks (λ i. aboveOf table (given (heldAt rows i))) k above ⌝ }
+    ensures { λ r. ⌜ Labels (λ i. shownBy (now (cs .entry)) table (valueOf x) (carriedAt (now (cs .entry)) table (valueOf x)) (given (heldAt rows i))) k r ⌝ }
 {
     let n = entry_count(cs);
     let mut out = qualified_of(rows, k);
     let mut f: u8 = 0;
     while f < n {
-        let next = with_every(out, rs, cs, a, x, above, EntryNo(f));
+        let next = with_every(out, cs, table, x, above, EntryNo(f));
         out = next;
         f += 1;
     }
@@ -312,9 +315,8 @@ fn ended_at(c: u8, n: u8) -> Walk
 
 // Test 18, cell by cell, up to the first that fails. The roles are carried from each cell to the next, whether it cites a record or not.
 fn walk_cells(
-    rs: &[u8],
     cs: &[u8],
-    a: [u16; 16],
+    table: [Role; 16],
     s: &[u8],
     x: Label,
     rows: [Row; 6],
@@ -322,16 +324,16 @@ fn walk_cells(
     ds: &[u8],
     f: Layout,
 ) -> Walk
-    ensures { λ r. ⌜ Tally (upTo 6 k) (cellFine (now (rs .entry)) (now (cs .entry)) a (labelOf f (now (s .entry))) (valueOf x)
+    ensures { λ r. ⌜ Tally (upTo 6 k) (cellFine (now (cs .entry)) table (labelOf f (now (s .entry))) (valueOf x)
         (rowsHeld rows (upTo 6 k)) (now (ds .entry)) (upTo 6 k)) (r .fine) (r .cells) (r .changes) ⌝ }
 {
     let n = up_to(6, k as usize);
     // In a byte: on a processor of 32 bits a word of 64 takes a call to be shifted.
     let end = (cell_count(k) % 256) as u8;
-    let above = above_of(a, rows, n);
+    let above = above_of(table, rows, n);
     let own = own_of(rows, n);
     let against = against_of(rows, n);
-    let shown = shown_of(rs, cs, a, x, rows, n, above);
+    let shown = shown_of(cs, table, x, rows, n, above);
     let mut from: [u16; 7] = [0; 7];
     let mut cells: u8 = 0;
     let mut changes: u8 = 0;
@@ -352,9 +354,8 @@ fn walk_cells(
 
 // Test 18: each cell that cites a record has the record's label within its known label.
 pub fn cells_ok(
-    rs: &[u8],
     cs: &[u8],
-    a: [u16; 16],
+    table: [Role; 16],
     s: &[u8],
     x: Label,
     rows: [Row; 6],
@@ -362,8 +363,8 @@ pub fn cells_ok(
     ds: &[u8],
     f: Layout,
 ) -> bool
-    ensures { λ r. ⌜ r ≡ cellsCode (now (rs .entry)) (now (cs .entry)) a (labelOf f (now (s .entry))) (valueOf x) (rowsHeld rows (upTo 6 k)) (now (ds .entry)) (upTo 6 k) ⌝ }
+    ensures { λ r. ⌜ r ≡ cellsCode (now (cs .entry)) table (labelOf f (now (s .entry))) (valueOf x) (rowsHeld rows (upTo 6 k)) (now (ds .entry)) (upTo 6 k) ⌝ }
 {
-    let found = walk_cells(rs, cs, a, s, x, rows, k, ds, f);
+    let found = walk_cells(cs, table, s, x, rows, k, ds, f);
     found.fine
 }

@@ -32,7 +32,7 @@ put-if-requires-2 : tie.Need-put-if-requires-2
 put-if-requires-2 c κs = search needs
 
 returns : tie.Need-returns
-returns c = let g = c .before .before .before .before .before .before .before .before .before .args in
+returns c = let g = c .before .before .before .before .before .before .before .before .args in
     let e = c .before .before .before .empty in let h = c .before .before .put-if in
     let d = c .before .before .before .before in
     passed-from (valueOf (e .result)) (valueOf (h .result)) (valueOf (c .put-if2 .result)) (valueOf (g .x)) (g .f .0) (g .l)
