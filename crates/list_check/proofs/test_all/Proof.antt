@@ -22,8 +22,8 @@ enum-told-2 : tie.Need-enum-told-2
 enum-told-2 c = search needs
 
 returns : tie.Need-returns
-returns c = let g = c .before .before .before .before .before .before .before .args in
-    ap refusalOf (c .enum-told2 .given .1) ∙ forms-stop (g .rs .now) (g .cs .now) (g .qs .now) (g .a) (valueOf (g .want)) (labelOf (g .f) (g .s .now)) (edgesPart (g .f) (g .s .now)) (g .n) _
+returns c = let g = c .before .before .before .before .before .before .args in
+    ap refusalOf (c .enum-told2 .given .1) ∙ forms-stop (g .table) (g .cs .now) (g .qs .now) (valueOf (g .want)) (labelOf (g .f) (g .s .now)) (edgesPart (g .f) (g .s .now)) (g .n) _
     (sym (c .before .before .test-forms .ensures) ∙ ap refusalOf (c .enum-told2 .given .1))
 
 test-records-requires : tie.Need-test-records-requires
@@ -36,8 +36,8 @@ enum-told-4 : tie.Need-enum-told-4
 enum-told-4 c = search needs
 
 returns-2 : tie.Need-returns-2
-returns-2 c = let g = c .before .before .before .before .before .before .before .before .before .before .args in
-    ap refusalOf (c .enum-told4 .given .1) ∙ rules-stop (g .rs .now) (g .cs .now) (g .qs .now) (g .a) (valueOf (g .want)) (labelOf (g .f) (g .s .now)) (edgesPart (g .f) (g .s .now)) (g .n)
+returns-2 c = let g = c .before .before .before .before .before .before .before .before .before .args in
+    ap refusalOf (c .enum-told4 .given .1) ∙ rules-stop (g .table) (g .cs .now) (g .qs .now) (valueOf (g .want)) (labelOf (g .f) (g .s .now)) (edgesPart (g .f) (g .s .now)) (g .n)
     (sym (c .before .before .before .before .before .test-forms .ensures) ∙ ap refusalOf (c .before .before .before .enum-told .given .1)) _
     (sym (c .before .before .test-records .ensures) ∙ ap refusalOf (c .enum-told4 .given .1))
 
@@ -48,8 +48,8 @@ test-end-requires : tie.Need-test-end-requires
 test-end-requires c κs = search needs
 
 returns-3 : tie.Need-returns-3
-returns-3 c = let g = c .before .before .before .before .before .before .before .before .before .before .before .args in
-    c .test-end .ensures ∙ rules-end (g .rs .now) (g .cs .now) (g .qs .now) (g .a) (valueOf (g .want)) (labelOf (g .f) (g .s .now)) (edgesPart (g .f) (g .s .now)) (g .n)
+returns-3 c = let g = c .before .before .before .before .before .before .before .before .before .before .args in
+    c .test-end .ensures ∙ rules-end (g .table) (g .cs .now) (g .qs .now) (valueOf (g .want)) (labelOf (g .f) (g .s .now)) (edgesPart (g .f) (g .s .now)) (g .n)
     (sym (c .before .before .before .before .before .before .test-forms .ensures) ∙ ap refusalOf (c .before .before .before .before .enum-told .given .1))
     (sym (c .before .before .before .test-records .ensures) ∙ ap refusalOf (c .before .enum-told3 .given .1))
 
