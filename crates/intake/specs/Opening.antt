@@ -2,13 +2,20 @@
 use Prim.Native.Nat.{ℕ}
 use mathlib.Core.Path.{_≡_}
 use mathlib.Core.List.{List}
+use mathlib.Core.Option.{none}
+use Rattle.logic.specs.Refusals.{unless↔}
 use Rattle.roles.specs.Ancestors.{roleCount}
 use Rattle.roles.specs.Records.{roleTable}
 use Rattle.answers.specs.Answers.{refusalOf, wholly}
 use Rattle.intake.specs.declared.Opening.{Opening}
-use Rattle.intake.specs.Intake.{rolesPart, bytesTest}
+use Rattle.intake.specs.Intake.{directoryTest, rolesPart, conceptsPart, queryPart, partsTest, bytesTest}
 
 pub record Opens (d : List ℕ) (o : Opening) : Type 0 where
   pub tested : refusalOf (o .tested) ≡ wholly (bytesTest d)
   pub roles : o .roles ≡ roleTable (rolesPart d)
   pub count : o .count ≡ roleCount (rolesPart d)
+
+-- where nothing refuses the description, nothing refuses its parts
+pub parts-fine : (d : List ℕ) → bytesTest d ≡ none → partsTest (rolesPart d) (conceptsPart d) (queryPart d) ≡ none
+unfolding bytesTest
+parts-fine d e = unless↔ (directoryTest d) 1 (partsTest (rolesPart d) (conceptsPart d) (queryPart d)) .0 e .1
