@@ -9,14 +9,17 @@ use borrow.Author.Tests.{ne-eqb}
 use lib.Dec.{ltb}
 use lib.ListN.{length}
 use Rattle.logic.specs.Tests.{and-l, and-r, so-ltb}
-use Rattle.logic.specs.Refusals.{Refusal, unless, unless↔, refuse, refuse-then, firstOf}
+use Rattle.logic.specs.Refusals.{Refusal, unless, unless↔, refuse, refuse-then, firstOf, refuse-some, refuse-none}
 use Rattle.description.specs.Literals.{Literal, pos, neg, literal, opposite, code, entryOf, adding, literalSet, code-literal, literal-code, entryOf-opposite}
 use Rattle.description.specs.Acceptance.{literalTest}
+use Rattle.description.specs.Descriptions.{Description}
 use Rattle.tables.specs.Tables.{describe}
 use Rattle.labels.specs.Labels.{mostEntries, labelWith}
-use Rattle.roles.specs.Ancestors.{AncestorsOf}
-use Rattle.intake.specs.Intake.{directoryTest, rolesPart, conceptsPart, queryPart, partsTest, parts-accepted, bytesTest}
-use Rattle.intake.specs.Steps.{tablesTest, tables-are}
+use Rattle.roles.specs.Ancestors.{roleCount}
+use Rattle.roles.specs.Records.{roleTable}
+use Rattle.roles.specs.declared.Role.{Role}
+use Rattle.intake.specs.Intake.{rolesPart, conceptsPart, queryPart, partsTest, parts-accepted, bytesTest}
+use Rattle.intake.specs.Opening.{wholly-none, parts-fine}
 use Rattle.nodes.specs.NodeSteps.{opposed, put-is}
 use Rattle.evidence.specs.Evidence.{headOf}
 use Rattle.evidence.specs.declared.Head.{Head}
@@ -42,9 +45,9 @@ counterSet c d = labelWith (labelWith 0 (opposed d)) c
 abbrev pub inTable : List ℕ → ℕ → Bool
 inTable cs l = ltb (l / 2) (length cs / 6)
 
--- 2 to 8 of the tables, then 24 of the literals
-abbrev pub askedCode : List ℕ → List ℕ → List ℕ → List ℕ → ℕ → ℕ → Option Refusal
-askedCode rs cs qs a c d = refuse 0 (tablesTest rs cs qs a) (wholly (unless (inTable cs c && inTable cs d) 24 none))
+-- 24 of the literals
+abbrev pub literalsCode : List ℕ → ℕ → ℕ → Option ℕ
+literalsCode cs c d = unless (inTable cs c && inTable cs d) 24 none
 
 -- the head of a list, or else of a graph, of n records
 abbrev headFor : Bool → ℕ → Head
@@ -54,22 +57,22 @@ headFor list n = cond list (RefutationOf n) (GraphOf n)
 abbrev pub kindsAfter : Bool → List ℕ → Pieces
 kindsAfter list t = pieces (headFor list 0) (secondOf t)
 
--- 10 to 20 of the pieces
-abbrev pub piecesCode : List ℕ → List ℕ → List ℕ → List ℕ → ℕ → ℕ → List ℕ → List ℕ → Pieces → Option Refusal
-piecesCode rs cs qs a c d s t ListAndGraph = firstOf (listCode rs cs qs a (counterSet c d) s) (graphCode rs cs qs a (labelWith 0 c) t)
-piecesCode rs cs qs a c d s t GraphAlone = graphCode rs cs qs a (counterSet c d) s
-piecesCode rs cs qs a c d s t ListAlone = listCode rs cs qs a (labelWith 0 c) s
-piecesCode rs cs qs a c d s t Misfit = none
-piecesCode rs cs qs a c d s t Off = none
+-- 10 to 20 of the pieces, by the records R of m roles
+abbrev pub piecesCode : List Role → ℕ → List ℕ → List ℕ → ℕ → ℕ → List ℕ → List ℕ → Pieces → Option Refusal
+piecesCode R m cs qs c d s t ListAndGraph = firstOf (listCode R cs qs (counterSet c d) s) (graphCode R m cs qs (labelWith 0 c) t)
+piecesCode R m cs qs c d s t GraphAlone = graphCode R m cs qs (counterSet c d) s
+piecesCode R m cs qs c d s t ListAlone = listCode R cs qs (labelWith 0 c) s
+piecesCode R m cs qs c d s t Misfit = none
+piecesCode R m cs qs c d s t Off = none
 
 -- the answer that tests of the pieces end in
 abbrev pub endsIn : Pieces → Option Refusal → Answer
 endsIn p o = answer (shows p) (firstOf o (wholly (kindsRefusal p)))
 
--- the answer on the three parts of a description
-unfoldable pub partsClaim : List ℕ → List ℕ → List ℕ → ℕ → ℕ → List ℕ → List ℕ → Answer
-partsClaim rs cs qs c d s t = let D = describe rs cs qs in let p = piecesOf s t in
-    answer (shows p) (refuse 0 (partsTest rs cs qs) (refuse 0 (claimTest D c d) (refuse 0 (kindsRefusal p) (piecesTests D c d s t p))))
+-- the answer on an opened description
+unfoldable pub openedClaim : List Role → ℕ → List ℕ → List ℕ → ℕ → ℕ → List ℕ → List ℕ → Answer
+openedClaim R m cs qs c d s t = let p = piecesOf s t in
+    answer (shows p) (refuse 0 (literalsCode cs c d) (refuse 0 (kindsRefusal p) (piecesCode R m cs qs c d s t p)))
 
 -- ---- laws for the code: the kinds
 -- the number of records does not matter
@@ -144,93 +147,87 @@ ends-by-kind f m o ListAlone = ap (answer HOLDS-OF-NOTHING) (first-none (f ListA
 ends-by-kind f m o Misfit = rw m refl
 ends-by-kind f m o Off = rw o refl
 
-module _ (rs cs qs a : List ℕ) (c d : ℕ) (s t : List ℕ) (anc : AncestorsOf rs a) where
-  -- 24 of the literals; then 9 and 24 of the pieces, and 10 to 20
-  abbrev literals : Option ℕ
-  literals = unless (inTable cs c && inTable cs d) 24 none
-
+module _ (R : List Role) (m : ℕ) (cs qs : List ℕ) (c d : ℕ) (s t : List ℕ) (p : Pieces) (q : p ≡ piecesOf s t) where
   abbrev coded : Pieces → Option Refusal
-  coded p = refuse 0 (kindsRefusal p) (piecesCode rs cs qs a c d s t p)
+  coded p = refuse 0 (kindsRefusal p) (piecesCode R m cs qs c d s t p)
 
-  module _ (fine : partsTest rs cs qs ≡ none) where
-    literals-are : (inTable cs c && inTable cs d)
-        ≡ (literalTest (describe rs cs qs) (literal c) && literalTest (describe rs cs qs) (literal d))
-    literals-are = rw (half c, half d) refl
+  joined : answer (shows p) (refuse 0 (literalsCode cs c d) (coded p)) ≡ openedClaim R m cs qs c d s t
+  unfolding openedClaim
+  joined = ap (λ p. answer (shows p) (refuse 0 (literalsCode cs c d) (coded p))) q
 
-    module _ (c-in : entryOf (literal c) < length cs / 6) (d-in : entryOf (literal d) < length cs / 6) where
-      few : length cs / 6 ≤ mostEntries
-      few = parts-accepted rs cs qs fine .1
+  -- 24 of the literals refuses
+  pub literals-stop : (z : Refusal) → wholly (literalsCode cs c d) ≡ some z → endsIn p (some z) ≡ openedClaim R m cs qs c d s t
+  literals-stop z e = sym (ap (answer (shows p)) (refuse-some 0 (literalsCode cs c d) (coded p) z e)) ∙ joined
 
-      -- C put into a set, and the two sets that are wanted
-      put-c : (N : ℕ) → labelWith N c ≡ adding N (literal c)
-      put-c N = put-is (length cs / 6) N c few c-in
+  -- it does not, and the pieces come to o
+  pub pieces-end : wholly (literalsCode cs c d) ≡ none → (o : Option Refusal) → o ≡ piecesCode R m cs qs c d s t p
+      → endsIn p o ≡ openedClaim R m cs qs c d s t
+  pieces-end e o h = ap (endsIn p) h ∙ ends-by-kind (piecesCode R m cs qs c d s t) refl refl p
+      ∙ sym (ap (answer (shows p)) (refuse-none 0 (literalsCode cs c d) (coded p) e)) ∙ joined
 
-      subject-set : labelWith 0 c ≡ literalSet (subject c)
-      unfolding literalSet
-      subject-set = put-c 0
+-- ---- for an accepted description these are the tests of a claim
+module _ (rs cs qs : List ℕ) (R : List Role) (c d : ℕ) (s t : List ℕ) (tab : R ≡ roleTable rs) (fine : partsTest rs cs qs ≡ none) where
+  abbrev D : Description
+  D = describe rs cs qs
 
-      counter-set : counterSet c d ≡ literalSet (counterexample c d)
-      unfolding literalSet
-      counter-set = let e = literal-code (opposite (literal d)) in
-          ap (λ N. labelWith N c)
-          (put-is (length cs / 6) 0 (opposed d) few (rw (e, entryOf-opposite (literal d)) d-in) ∙ ap (adding 0) e) ∙ put-c _
+  literals-are : (inTable cs c && inTable cs d) ≡ (literalTest D (literal c) && literalTest D (literal d))
+  literals-are = rw (half c, half d) refl
 
-      list : (W : List Literal) (N : ℕ) (x : List ℕ) → N ≡ literalSet W → listCode rs cs qs a N x ≡ listTests (describe rs cs qs) W x
-      list W N x e = let k = parts-accepted rs cs qs fine in
-          ap (λ M. listCode rs cs qs a M x) e ∙ list-is rs cs qs a W x anc (k .0) (k .1) (k .2)
+  module _ (c-in : entryOf (literal c) < length cs / 6) (d-in : entryOf (literal d) < length cs / 6) where
+    few : length cs / 6 ≤ mostEntries
+    few = parts-accepted rs cs qs fine .1
 
-      graph : (W : List Literal) (N : ℕ) (x : List ℕ) → N ≡ literalSet W → graphCode rs cs qs a N x ≡ graphTests (describe rs cs qs) W x
-      graph W N x e = ap (λ M. graphCode rs cs qs a M x) e ∙ graph-is rs cs qs a W x anc fine
+    -- C put into a set, and the two sets that are wanted
+    put-c : (N : ℕ) → labelWith N c ≡ adding N (literal c)
+    put-c N = put-is (length cs / 6) N c few c-in
 
-      pieces-are : (p : Pieces) → piecesCode rs cs qs a c d s t p ≡ piecesTests (describe rs cs qs) c d s t p
-      pieces-are ListAndGraph = ap₂ firstOf (list (counterexample c d) _ s counter-set) (graph (subject c) _ t subject-set)
-      pieces-are GraphAlone = graph (counterexample c d) _ s counter-set
-      pieces-are ListAlone = list (subject c) _ s subject-set
-      pieces-are Misfit = refl
-      pieces-are Off = refl
+    subject-set : labelWith 0 c ≡ literalSet (subject c)
+    unfolding literalSet
+    subject-set = put-c 0
 
-    -- after 2 to 8
-    rest-is : (p : Pieces) → refuse 0 literals (coded p)
-        ≡ refuse 0 (claimTest (describe rs cs qs) c d) (refuse 0 (kindsRefusal p) (piecesTests (describe rs cs qs) c d s t p))
-    rest-is p = ap (λ b. refuse 0 (unless b 24 none) (coded p)) literals-are
-        ∙ refuse-then 0 (claimTest (describe rs cs qs) c d) _ _ (λ e. let h = unless↔ _ 24 none .0 e .0 in
-        let c-in = so-ltb _ _ (and-l _ _ h) in let d-in = so-ltb _ _ (and-r (literalTest (describe rs cs qs) (literal c)) _ h) in
-        ap (refuse 0 (kindsRefusal p)) (pieces-are c-in d-in p))
+    counter-set : counterSet c d ≡ literalSet (counterexample c d)
+    unfolding literalSet
+    counter-set = let e = literal-code (opposite (literal d)) in
+        ap (λ N. labelWith N c)
+        (put-is (length cs / 6) 0 (opposed d) few (rw (e, entryOf-opposite (literal d)) d-in) ∙ ap (adding 0) e) ∙ put-c _
 
-  module _ (p : Pieces) (q : p ≡ piecesOf s t) where
-    joined : answer (shows p) (firstOf (askedCode rs cs qs a c d) (coded p)) ≡ partsClaim rs cs qs c d s t
-    unfolding partsClaim
-    joined = ap (answer (shows p)) (first-two (tablesTest rs cs qs a) literals (coded p)
-        ∙ ap (λ o. refuse 0 o (refuse 0 literals (coded p))) (tables-are rs cs qs a anc)
-        ∙ refuse-then 0 (partsTest rs cs qs) _ _ (λ fine. rest-is fine p))
-        ∙ ap (λ p. answer (shows p) (refuse 0 (partsTest rs cs qs) (refuse 0 (claimTest (describe rs cs qs) c d)
-        (refuse 0 (kindsRefusal p) (piecesTests (describe rs cs qs) c d s t p))))) q
+    list : (W : List Literal) (N : ℕ) (x : List ℕ) → N ≡ literalSet W → listCode R cs qs N x ≡ listTests D W x
+    list W N x e = let k = parts-accepted rs cs qs fine in ap (λ M. listCode R cs qs M x) e ∙ list-is rs cs qs R W x tab (k .0) (k .1) (k .2)
 
-    -- 2 to 8, or 24 of the literals, refuse
-    pub asked-stops : (z : Refusal) → askedCode rs cs qs a c d ≡ some z → endsIn p (some z) ≡ partsClaim rs cs qs c d s t
-    asked-stops z e = sym (ap (λ o. answer (shows p) (firstOf o (coded p))) e) ∙ joined
+    graph : (W : List Literal) (N : ℕ) (x : List ℕ) → N ≡ literalSet W → graphCode R (roleCount rs) cs qs N x ≡ graphTests D W x
+    graph W N x e = ap (λ M. graphCode R (roleCount rs) cs qs M x) e ∙ graph-is rs cs qs R W x tab fine
 
-    -- they do not, and the pieces come to o
-    pub pieces-end : askedCode rs cs qs a c d ≡ none → (o : Option Refusal) → o ≡ piecesCode rs cs qs a c d s t p
-        → endsIn p o ≡ partsClaim rs cs qs c d s t
-    pieces-end e o h = ap (endsIn p) h ∙ ends-by-kind (piecesCode rs cs qs a c d s t) refl refl p
-        ∙ sym (ap (λ x. answer (shows p) (firstOf x (coded p))) e) ∙ joined
+    pieces-are : (p : Pieces) → piecesCode R (roleCount rs) cs qs c d s t p ≡ piecesTests D c d s t p
+    pieces-are ListAndGraph = ap₂ firstOf (list (counterexample c d) _ s counter-set) (graph (subject c) _ t subject-set)
+    pieces-are GraphAlone = graph (counterexample c d) _ s counter-set
+    pieces-are ListAlone = list (subject c) _ s subject-set
+    pieces-are Misfit = refl
+    pieces-are Off = refl
+
+  rest-is : (p : Pieces) → refuse 0 (literalsCode cs c d) (refuse 0 (kindsRefusal p) (piecesCode R (roleCount rs) cs qs c d s t p))
+      ≡ refuse 0 (claimTest D c d) (refuse 0 (kindsRefusal p) (piecesTests D c d s t p))
+  rest-is p = ap (λ b. refuse 0 (unless b 24 none) (refuse 0 (kindsRefusal p) (piecesCode R (roleCount rs) cs qs c d s t p))) literals-are
+      ∙ refuse-then 0 (claimTest D c d) _ _ (λ e. let h = unless↔ _ 24 none .0 e .0 in
+      let c-in = so-ltb _ _ (and-l _ _ h) in let d-in = so-ltb _ _ (and-r (literalTest D (literal c)) _ h) in
+      ap (refuse 0 (kindsRefusal p)) (pieces-are c-in d-in p))
 
 -- a list and then a graph: the list is refused, or it is not
-module _ (rs cs qs a : List ℕ) (c d : ℕ) (s t : List ℕ) (p : Pieces) (q : p ≡ ListAndGraph) where
-  pub list-stops : (z : Refusal) → listCode rs cs qs a (counterSet c d) s ≡ some z → some z ≡ piecesCode rs cs qs a c d s t p
+module _ (R : List Role) (m : ℕ) (cs qs : List ℕ) (c d : ℕ) (s t : List ℕ) (p : Pieces) (q : p ≡ ListAndGraph) where
+  pub list-stops : (z : Refusal) → listCode R cs qs (counterSet c d) s ≡ some z → some z ≡ piecesCode R m cs qs c d s t p
   list-stops z e = rw (q, e) refl
 
-  pub list-on : listCode rs cs qs a (counterSet c d) s ≡ none → graphCode rs cs qs a (labelWith 0 c) t ≡ piecesCode rs cs qs a c d s t p
+  pub list-on : listCode R cs qs (counterSet c d) s ≡ none → graphCode R m cs qs (labelWith 0 c) t ≡ piecesCode R m cs qs c d s t p
   list-on e = rw (q, e) refl
 
--- ---- the directory comes first
+-- ---- the description comes first
 module _ (x : List ℕ) (c d : ℕ) (s t : List ℕ) where
-  pub directory-told : directoryTest x ≡ false → ofJudgement (Refused 1 0) ≡ claimAnswer x c d s t
-  unfolding claimAnswer bytesTest
-  directory-told h = rw h refl
+  pub claim-refused : (n i : ℕ) → some (record { number = n; place = i }) ≡ wholly (bytesTest x) → ofJudgement (Refused n i) ≡ claimAnswer x c d s t
+  unfolding claimAnswer
+  claim-refused n i e = sym (ap (answer (shows (piecesOf s t))) (refuse-some 0 (bytesTest x) _ _ (sym e)))
 
-  pub directory-on : (rs cs qs : List ℕ) → directoryTest x ≡ true → rs ≡ rolesPart x → cs ≡ conceptsPart x → qs ≡ queryPart x
-      → partsClaim rs cs qs c d s t ≡ claimAnswer x c d s t
-  unfolding partsClaim claimAnswer bytesTest
-  directory-on rs cs qs h p q r = rw (p, q, r, h) refl
+  pub claim-opened : (R : List Role) (m : ℕ) (cs qs : List ℕ) → none ≡ wholly (bytesTest x) → R ≡ roleTable (rolesPart x) → m ≡ roleCount (rolesPart x)
+      → cs ≡ conceptsPart x → qs ≡ queryPart x → openedClaim R m cs qs c d s t ≡ claimAnswer x c d s t
+  unfolding claimAnswer openedClaim
+  claim-opened R m cs qs e tab k p q = rw (k, p, q) (ap (answer (shows (piecesOf s t)))
+      (rest-is (rolesPart x) (conceptsPart x) (queryPart x) R c d s t tab (parts-fine x (sym (wholly-none (bytesTest x) e))) (piecesOf s t)
+      ∙ sym (refuse-none 0 (bytesTest x) _ (sym e))))

@@ -1,23 +1,23 @@
 // The answer on a claim "every C is D" with one or two pieces of evidence.
 ghost use mathlib.Core.Path.{_≡_};
 ghost use Rattle.labels.specs.Labels.{valueOf};
-ghost use Rattle.answers.specs.Answers.{refusalOf, ofJudgement};
+ghost use Rattle.answers.specs.Answers.{refusalOf, wholly, ofJudgement};
 ghost use Rattle.claims.specs.Claims.{piecesOf, claimAnswer};
-ghost use Rattle.claims.specs.ClaimSteps.{counterSet, inTable, askedCode, kindsAfter, endsIn, partsClaim};
+ghost use Rattle.claims.specs.ClaimSteps.{counterSet, inTable, literalsCode, kindsAfter, endsIn, openedClaim};
 use answers::Judgement;
 use answers::Tested;
 use evidence::Head;
 use evidence::read_head;
 use graph_check::test_graph;
-use intake::directory_ok;
-use intake::test_tables;
+use intake::concepts_part;
+use intake::open_description;
+use intake::query_part;
 use labels::Label;
 use labels::only;
 use labels::put;
 use list_check::test_list;
 use nodes::opposite;
-use parts::part;
-use roles::ancestors;
+use roles::Role;
 
 // The literals C and D of a claim, by number.
 pub struct Claim {
@@ -83,14 +83,10 @@ fn in_table(cs: &[u8], l: u8) -> bool
     ((l / 2) as usize) < cs.len() / 6
 }
 
-// Tests 2 to 8 of the tables, then 24 of the literals.
-fn test_asked(rs: &[u8], cs: &[u8], qs: &[u8], a: [u16; 16], k: Claim) -> Tested
-    ensures { λ r. ⌜ refusalOf r ≡ askedCode (now (rs .entry)) (now (cs .entry)) (now (qs .entry)) a (k .c) (k .d) ⌝ }
+// Test 24 of the literals.
+fn test_literals(cs: &[u8], k: Claim) -> Tested
+    ensures { λ r. ⌜ refusalOf r ≡ wholly (literalsCode (now (cs .entry)) (k .c) (k .d)) ⌝ }
 {
-    let t = test_tables(rs, cs, qs, a);
-    let Tested::Fine = t else {
-        return t;
-    };
     if !(in_table(cs, k.c) & in_table(cs, k.d)) {
         return Tested::Refused(24, 0);
     }
@@ -113,26 +109,25 @@ fn told(t: Tested, p: Pieces) -> Judgement
     }
 }
 
-// The answer on the parts of a description with a claim.
-fn check_parts(rs: &[u8], cs: &[u8], qs: &[u8], k: Claim, first: &[u8], second: &[u8]) -> Judgement
-    ensures { λ r. ⌜ ofJudgement r ≡ partsClaim (now (rs .entry)) (now (cs .entry)) (now (qs .entry)) (k .c) (k .d) (now (first .entry)) (now (second .entry)) ⌝ }
+// The answer on an opened description with a claim, by the records of so many roles.
+fn check_opened(roles: [Role; 16], count: u8, cs: &[u8], qs: &[u8], k: Claim, first: &[u8], second: &[u8]) -> Judgement
+    ensures { λ r. ⌜ ofJudgement r ≡ openedClaim roles count (now (cs .entry)) (now (qs .entry)) (k .c) (k .d) (now (first .entry)) (now (second .entry)) ⌝ }
 {
-    let a = ancestors(rs);
     let p = kinds(first, second);
-    let t = test_asked(rs, cs, qs, a, k);
+    let t = test_literals(cs, k);
     let Tested::Fine = t else {
         return told(t, p);
     };
     match p {
         Pieces::ListAndGraph => {
-            let u = test_list(rs, cs, qs, a, counterexample(k), first);
+            let u = test_list(roles, cs, qs, counterexample(k), first);
             let Tested::Fine = u else {
                 return told(u, p);
             };
-            told(test_graph(rs, cs, qs, a, only(k.c), second), p)
+            told(test_graph(roles, count, cs, qs, only(k.c), second), p)
         }
-        Pieces::GraphAlone => told(test_graph(rs, cs, qs, a, counterexample(k), first), p),
-        Pieces::ListAlone => told(test_list(rs, cs, qs, a, only(k.c), first), p),
+        Pieces::GraphAlone => told(test_graph(roles, count, cs, qs, counterexample(k), first), p),
+        Pieces::ListAlone => told(test_list(roles, cs, qs, only(k.c), first), p),
         Pieces::Misfit => told(t, p),
         Pieces::Off => told(t, p),
     }
@@ -142,15 +137,13 @@ fn check_parts(rs: &[u8], cs: &[u8], qs: &[u8], k: Claim, first: &[u8], second: 
 pub fn check_claim(description: &[u8], c: u8, d: u8, first: &[u8], second: &[u8]) -> Judgement
     ensures { λ r. ⌜ ofJudgement r ≡ claimAnswer (now (description .entry)) c d (now (first .entry)) (now (second .entry)) ⌝ }
 {
-    if !directory_ok(description) {
-        return Judgement::Refused(1, 0);
+    let o = open_description(description);
+    let tested = o.tested;
+    let roles = o.roles;
+    let cs = concepts_part(description);
+    let qs = query_part(description);
+    match tested {
+        Tested::Fine => check_opened(roles, o.count, cs, qs, Claim { c: c, d: d }, first, second),
+        Tested::Refused(n, i) => Judgement::Refused(n, i),
     }
-    check_parts(
-        part(description, 0, 0),
-        part(description, 0, 1),
-        part(description, 0, 2),
-        Claim { c: c, d: d },
-        first,
-        second,
-    )
 }

@@ -1,8 +1,8 @@
 -- A description opened: the answer of tests 1 to 8, and the role records that the whole checker reads (02, request 4).
 use Prim.Native.Nat.{ℕ}
-use mathlib.Core.Path.{_≡_}
+use mathlib.Core.Path.{_≡_, refl}
 use mathlib.Core.List.{List}
-use mathlib.Core.Option.{none}
+use mathlib.Core.Option.{Option, none, some, Option·none-ne-some}
 use Rattle.logic.specs.Refusals.{unless↔}
 use Rattle.roles.specs.Ancestors.{roleCount}
 use Rattle.roles.specs.Records.{roleTable}
@@ -15,7 +15,11 @@ pub record Opens (d : List ℕ) (o : Opening) : Type 0 where
   pub roles : o .roles ≡ roleTable (rolesPart d)
   pub count : o .count ≡ roleCount (rolesPart d)
 
--- where nothing refuses the description, nothing refuses its parts
+-- nothing refuses the description, and so nothing refuses its parts
+pub wholly-none : (o : Option ℕ) → none ≡ wholly o → none ≡ o
+wholly-none none e = refl
+wholly-none (some n) e = absurd (Option·none-ne-some _ e)
+
 pub parts-fine : (d : List ℕ) → bytesTest d ≡ none → partsTest (rolesPart d) (conceptsPart d) (queryPart d) ≡ none
 unfolding bytesTest
 parts-fine d e = unless↔ (directoryTest d) 1 (partsTest (rolesPart d) (conceptsPart d) (queryPart d)) .0 e .1

@@ -1,49 +1,49 @@
-use mathlib.Core.Path.{sym, _∙_}
-use borrow.Author.Tests.{not-true, not-false}
-use Rattle.claims.specs.ClaimSteps.{directory-told, directory-on}
+use mathlib.Core.Path.{_∙_, sym, ap}
+use Rattle.answers.specs.Answers.{refusalOf}
+use Rattle.claims.specs.ClaimSteps.{claim-opened, claim-refused}
 use borrow.Author.Needs.{needs}
 use Rattle.claims.proofs.check_claim.Statement.{statement}
 use Rattle.claims.proofs.check_claim.Tie as tie
 use Rattle.claims.proofs.check_claim.Reads as reads
 use Rattle.claims.proofs.check_claim.Lts as lts
-use Rattle.claims.proofs.check_parts.Reads as check-parts-reads
-use Rattle.intake.proofs.directory_ok.Reads as directory-ok-reads
-use Rattle.parts.proofs.part.Reads as part-reads
+use Rattle.claims.proofs.check_opened.Reads as check-opened-reads
+use Rattle.intake.proofs.concepts_part.Reads as concepts-part-reads
+use Rattle.intake.proofs.open_description.Reads as open-description-reads
+use Rattle.intake.proofs.query_part.Reads as query-part-reads
 
-directory-ok-requires : tie.Need-directory-ok-requires
-directory-ok-requires c κs = search needs
+open-description-requires : tie.Need-open-description-requires
+open-description-requires c κs = search needs
+
+concepts-part-requires : tie.Need-concepts-part-requires
+concepts-part-requires c κs = search needs
+
+query-part-requires : tie.Need-query-part-requires
+query-part-requires c κs = search needs
+
+enum-told : tie.Need-enum-told
+enum-told c = search needs
+
+check-opened-requires : tie.Need-check-opened-requires
+check-opened-requires c κs = search needs
+
+enum-known-tested : tie.Need-enum-known-tested
+enum-known-tested c = search needs
 
 returns : tie.Need-returns
-returns c = let g = c .before .before .before .before .before .args in
-    directory-told (g .description .now) (g .c) (g .d) (g .first .now) (g .second .now)
-    (sym (c .before .directory-ok .ensures) ∙ not-true _ (c .if1 .taken))
-
-part-requires : tie.Need-part-requires
-part-requires c κs = search needs
-
-part-requires-2 : tie.Need-part-requires-2
-part-requires-2 c κs = search needs
-
-part-requires-3 : tie.Need-part-requires-3
-part-requires-3 c κs = search needs
-
-check-parts-requires : tie.Need-check-parts-requires
-check-parts-requires c κs = search needs
+returns c = let o = c .before .before .before .before .before .before .open-description .ensures in c .check-opened .ensures ∙ claim-opened (c .before .before .before .before .before .before .before .before .before .before .args .description .now) (c .before .before .before .before .before .before .before .before .before .before .args .c) (c .before .before .before .before .before .before .before .before .before .before .args .d) (c .before .before .before .before .before .before .before .before .before .before .args .first .now) (c .before .before .before .before .before .before .before .before .before .before .args .second .now) _ _ _ _ (sym (ap refusalOf (c .before .enum-told .given .1)) ∙ o .tested) (o .roles) (o .count) (c .before .before .before .before .concepts-part .ensures) (c .before .before .before .query-part .ensures)
 
 returns-2 : tie.Need-returns-2
-returns-2 c = let g = c .before .before .before .before .before .before .before .before .before .args in c .check-parts .ensures
-    ∙ directory-on (g .description .now) (g .c) (g .d) (g .first .now) (g .second .now) _ _ _
-    (sym (c .before .before .before .before .before .directory-ok .ensures) ∙ not-false _ (c .before .before .before .before .if1 .left))
-    (c .before .before .before .part .ensures) (c .before .before .part2 .ensures) (c .before .part3 .ensures)
+returns-2 c = let o = c .before .before .before .before .before .before .open-description .ensures in claim-refused (c .before .before .before .before .before .before .before .before .before .before .args .description .now) (c .before .before .before .before .before .before .before .before .before .before .args .c) (c .before .before .before .before .before .before .before .before .before .before .args .d) (c .before .before .before .before .before .before .before .before .before .before .args .first .now) (c .before .before .before .before .before .before .before .before .before .before .args .second .now) _ _ (sym (ap refusalOf (c .before .tested .given .1)) ∙ o .tested)
 
 pub check-claim-spec : {M : Type 1} → statement M
 check-claim-spec =
     tie.close
     (tie.spec
-    directory-ok-requires
+    open-description-requires
+    concepts-part-requires
+    query-part-requires
+    enum-told
+    check-opened-requires
+    enum-known-tested
     returns
-    part-requires
-    part-requires-2
-    part-requires-3
-    check-parts-requires
     returns-2)
