@@ -248,7 +248,7 @@ fn test_bytes(d: &[u8], t: [Role; 16]) -> Tested
     if !directory_ok(d) {
         return Tested::Refused(1, 0);
     }
-    test_parts(part(d, 0, 0), part(d, 0, 1), part(d, 0, 2), t)
+    test_parts(roles_part(d), concepts_part(d), query_part(d), t)
 }
 
 // A description that has been opened: what tests 1 to 8 say of it, the records of its roles, and how many roles it has.
@@ -262,7 +262,7 @@ pub struct Opening {
 pub fn open_description(d: &[u8]) -> Opening
     ensures { λ r. ⌜ Opens (now (d .entry)) r ⌝ }
 {
-    let rs = part(d, 0, 0);
+    let rs = roles_part(d);
     let t = role_table(rs);
     Opening {
         tested: test_bytes(d, t),
@@ -271,7 +271,13 @@ pub fn open_description(d: &[u8]) -> Opening
     }
 }
 
-// The concepts and the question of a description.
+// The parts of a description: roles, concepts and question.
+pub fn roles_part(d: &[u8]) -> &[u8]
+    ensures { λ r. ⌜ now r ≡ rolesPart (now (d .entry)) ⌝ }
+{
+    part(d, 0, 0)
+}
+
 pub fn concepts_part(d: &[u8]) -> &[u8]
     ensures { λ r. ⌜ now r ≡ conceptsPart (now (d .entry)) ⌝ }
 {

@@ -1,4 +1,4 @@
--- The answers in their order: 1, then 2 to 8 of the three parts, then 23, then the reading.
+-- The answers in their order: 1 to 8 of the description, then 23, then the reading.
 use Prim.Native.Nat.{ℕ, _*_, _/_, _+_, _≤_, _<_}
 use mathlib.Core.Path.{_≡_, refl, sym, _∙_, ap}
 use mathlib.Core.Bool.{Bool, true, false, cond, _&&_}
@@ -17,11 +17,9 @@ use Rattle.description.specs.Acceptance.{Accepted}
 use Rattle.tables.specs.Tables.{describe}
 use Rattle.answers.specs.declared.Tested.the-variants.{Fine, Refused}
 use Rattle.answers.specs.declared.Reading as Readings
-use Rattle.answers.specs.Answers.{Answer, Word, HOLDS, FAILS, REFUSED, answer, refusalOf, wholly, fine↔, ofReading}
-use Rattle.roles.specs.Ancestors.{AncestorsOf}
-use Rattle.intake.specs.Intake.{directoryTest, rolesPart, conceptsPart, queryPart, partsTest, AcceptedParts, parts-accepted, bytesTest}
-use Rattle.intake.specs.Order.{stops-1}
-use Rattle.intake.specs.Steps.{tablesTest, tables-are}
+use Rattle.answers.specs.Answers.{Answer, Word, HOLDS, FAILS, REFUSED, answer, refusalOf, wholly, ofReading}
+use Rattle.intake.specs.Intake.{rolesPart, conceptsPart, queryPart, AcceptedParts, parts-accepted, bytesTest}
+use Rattle.intake.specs.Opening.{wholly-none, parts-fine}
 use Rattle.interpretation.specs.Meaning.{Interpretation}
 use Rattle.interpretation.specs.Reading.{includes, composes, follows, satisfies, reads}
 use Rattle.labels.specs.Labels.{wide, nameBytes}
@@ -33,7 +31,7 @@ use Rattle.line_reader.specs.LineSteps.{sized, maskAt, pairIn, upAt, com
 abbrev pub modelTest : List ℕ → List ℕ → List ℕ → Interpretation → Bool
 modelTest rs cs qs I = reads (describe rs cs qs) I (describe rs cs qs .root ∷ [])
 
--- what is answered of the line, and of the three parts and the line
+-- what is answered of the line
 abbrev pub answerAfter : List ℕ → List ℕ → List ℕ → List ℕ → Option Refusal → Answer
 answerAfter rs cs qs s o = answer (cond (modelTest rs cs qs (lineIn (wide (length cs / 6)) s)) HOLDS FAILS) o
 
@@ -42,9 +40,6 @@ lineRefusal rs cs qs s = refuse 0 (unless (lineTest (describe rs cs qs) s) 23 no
 
 unfoldable pub lineAnswer : List ℕ → List ℕ → List ℕ → List ℕ → Answer
 lineAnswer rs cs qs s = answerAfter rs cs qs s (lineRefusal rs cs qs s)
-
-unfoldable pub partsAnswer : List ℕ → List ℕ → List ℕ → List ℕ → Answer
-partsAnswer rs cs qs s = answerAfter rs cs qs s (refuse 0 (partsTest rs cs qs) (lineRefusal rs cs qs s))
 
 -- ---- the reading
 module _ (rs cs qs s : List ℕ) (broad : Bool) (at d : ℕ) (w : at ≡ nameAt (nameBytes broad) d) where
@@ -77,33 +72,24 @@ module _ (rs cs qs s : List ℕ) where
   unfolding lineAnswer
   line-answered broad d b w e q p = rw (e, p, q, w) refl
 
--- ---- 2 to 8, then the line
+-- ---- 1 to 8, then the line
 -- what refuses first is answered, whatever comes after
 first-stops : (w : Word) (x : Refusal) (o : Option ℕ) (later : Option Refusal) → some x ≡ wholly o → answer REFUSED (some x) ≡ answer w (refuse 0 o later)
 first-stops w x none later q = absurd (let z : _≡_ {A = ℕ} 0 1 = cc in omega arith)
 first-stops w x (some m) later q = ap (answer w) q
 
-module _ (rs cs qs s a : List ℕ) (anc : AncestorsOf rs a) where
-  none-refuse : refusalOf Fine ≡ wholly (tablesTest rs cs qs a) → partsTest rs cs qs ≡ none
-  none-refuse e = sym (tables-are rs cs qs a anc) ∙ fine↔ Fine (tablesTest rs cs qs a) e .0 refl
-
-  pub parts-ready : refusalOf Fine ≡ wholly (tablesTest rs cs qs a) → AcceptedParts rs cs qs
-  parts-ready e = parts-accepted rs cs qs (none-refuse e)
-
-  pub parts-go-on : refusalOf Fine ≡ wholly (tablesTest rs cs qs a) → lineAnswer rs cs qs s ≡ partsAnswer rs cs qs s
-  unfolding lineAnswer partsAnswer
-  parts-go-on e = rw (none-refuse e) refl
-
-  pub parts-stop : (n r : ℕ) → refusalOf (Refused n r) ≡ wholly (tablesTest rs cs qs a) → ofReading (Readings.the-variants.Refused n r) ≡ partsAnswer rs cs qs s
-  unfolding partsAnswer
-  parts-stop n r e = first-stops _ _ (partsTest rs cs qs) _ (e ∙ ap wholly (tables-are rs cs qs a anc))
-
--- ---- 1, then the parts
 module _ (d s : List ℕ) where
-  pub directory-refused : directoryTest d ≡ false → ofReading (Readings.the-variants.Refused 1 0) ≡ readAnswer d s
+  pub read-refused : (n r : ℕ) → refusalOf (Refused n r) ≡ wholly (bytesTest d) → ofReading (Readings.the-variants.Refused n r) ≡ readAnswer d s
   unfolding readAnswer readRefusal
-  directory-refused q = first-stops _ _ (bytesTest d) _ (stops-1 d q)
+  read-refused n r e = first-stops _ _ (bytesTest d) _ e
 
-  pub directory-goes-on : (rs cs qs : List ℕ) → directoryTest d ≡ true → rs ≡ rolesPart d → cs ≡ conceptsPart d → qs ≡ queryPart d → partsAnswer rs cs qs s ≡ readAnswer d s
-  unfolding partsAnswer readAnswer readRefusal bytesTest
-  directory-goes-on rs cs qs e p q r = rw (p, q, r, e) refl
+  module _ (e : refusalOf Fine ≡ wholly (bytesTest d)) (rs cs qs : List ℕ) (p : rs ≡ rolesPart d) (q : cs ≡ conceptsPart d) (r : qs ≡ queryPart d) where
+    fine : bytesTest d ≡ none
+    fine = sym (wholly-none (bytesTest d) e)
+
+    pub read-ready : AcceptedParts rs cs qs
+    read-ready = rw (p, q, r) (parts-accepted (rolesPart d) (conceptsPart d) (queryPart d) (parts-fine d fine))
+
+    pub read-opened : lineAnswer rs cs qs s ≡ readAnswer d s
+    unfolding lineAnswer readAnswer readRefusal
+    read-opened = rw (p, q, r, fine) refl

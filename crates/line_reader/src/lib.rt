@@ -11,20 +11,20 @@ ghost use Rattle.answers.specs.Answers.{ofReading};
 ghost use Rattle.intake.specs.Intake.{AcceptedParts};
 ghost use Rattle.lines.specs.Lines.{mostElements};
 ghost use Rattle.line_reader.specs.LineSteps.{sized};
-ghost use Rattle.line_reader.specs.Order.{modelTest, lineAnswer, partsAnswer};
+ghost use Rattle.line_reader.specs.Order.{modelTest, lineAnswer};
 ghost use Rattle.line_reader.specs.Reading.{readAnswer};
 use answers::Reading;
 use answers::Tested;
 use form::line_ok;
-use intake::directory_ok;
-use intake::test_tables;
+use intake::concepts_part;
+use intake::open_description;
+use intake::query_part;
+use intake::roles_part;
 use labels::is_wide;
 use pairs::inclusions_ok;
 use pairs::transitivity_ok;
 use parts::byte;
-use parts::part;
 use places::name_at;
-use roles::ancestors;
 use truth::root_ok;
 use truth::rules_ok;
 use truth::truth_sets;
@@ -59,23 +59,14 @@ fn read_line(rs: &[u8], cs: &[u8], qs: &[u8], s: &[u8]) -> Reading
     }
 }
 
-// Tests 2 to 8 of the three parts, then those of the line.
-fn read_parts(rs: &[u8], cs: &[u8], qs: &[u8], s: &[u8]) -> Reading
-    ensures { λ r. ⌜ ofReading r ≡ partsAnswer (now (rs .entry)) (now (cs .entry)) (now (qs .entry)) (now (s .entry)) ⌝ }
-{
-    let tested = test_tables(rs, cs, qs, ancestors(rs));
-    match tested {
-        Tested::Fine => read_line(rs, cs, qs, s),
-        Tested::Refused(n, r) => Reading::Refused(n, r),
-    }
-}
-
-// Whether the line `s` is a model of the description `d` with the root somewhere.
+// Whether the line `s` is a model of the description `d` with the root somewhere. The reading goes by the description's own bytes.
 pub fn read_interpretation(d: &[u8], s: &[u8]) -> Reading
     ensures { λ r. ⌜ ofReading r ≡ readAnswer (now (d .entry)) (now (s .entry)) ⌝ }
 {
-    if !directory_ok(d) {
-        return Reading::Refused(1, 0);
+    let o = open_description(d);
+    let tested = o.tested;
+    match tested {
+        Tested::Fine => read_line(roles_part(d), concepts_part(d), query_part(d), s),
+        Tested::Refused(n, r) => Reading::Refused(n, r),
     }
-    read_parts(part(d, 0, 0), part(d, 0, 1), part(d, 0, 2), s)
 }

@@ -19,7 +19,9 @@ use Rattle.description.specs.Descriptions.{Description, isName, wanted}
 use Rattle.description.specs.Roles.{ancestor}
 use Rattle.description.specs.Acceptance.{Accepted}
 use Rattle.tables.specs.Tables.{describe}
-use Rattle.roles.specs.Ancestors.{AncestorsOf, ancestor-masks}
+use Rattle.roles.specs.Ancestors.{roleCount, ancestor-masks}
+use Rattle.roles.specs.Records.{roleAt, roleTable, ancestorsIn, table-ancestors, table-bytes}
+use Rattle.roles.specs.declared.Role.{Role}
 use Rattle.labels.specs.Labels.{mostEntries, nameBytes, namesIn, mask-some}
 use Rattle.evidence.specs.declared.Layout.{Layout}
 use Rattle.evidence.specs.Evidence.{recordCount, layoutOf, HeadOk, recordAt, labelOf, edgesPart, graphIn, graph-size, NodeForm}
@@ -40,8 +42,8 @@ use Rattle.line_writer.specs.WriteJoin.{closed-is}
 abbrev pub rowsAt : Layout → ℕ → ℕ
 rowsAt f d = nameAt (nameBytes (f .wide)) d
 
--- what the code leaves in a buffer: the number of elements, then the name masks, then the direct pairs, then these closed
-pub record LaidLine (rs cs : List ℕ) (f : Layout) (s a : List ℕ) (k d : ℕ) (old new : List ℕ) : Type 0 where
+-- what the code leaves in a buffer, with the mask t of transitive roles and the ancestors a of each role: the number of elements, then the name masks, then the direct pairs, then these closed
+pub record LaidLine (t : ℕ) (cs : List ℕ) (f : Layout) (s a : List ℕ) (k d : ℕ) (old new : List ℕ) : Type 0 where
   pub counted : List ℕ
   pub named : List ℕ
   pub direct : List ℕ
@@ -50,14 +52,14 @@ pub record LaidLine (rs cs : List ℕ) (f : Layout) (s a : List ℕ) (k d : ℕ)
   pub rows : Masks (rowsAt f d) (directMasks f s k d) named (d * d) direct
   pub small : Bytes direct
   pub size : length new ≡ length direct
-  pub bytes : (p : ℕ) → byteAt new p ≡ closedByte direct (rowsAt f d) d (transitivesIn rs) a p
+  pub bytes : (p : ℕ) → byteAt new p ≡ closedByte direct (rowsAt f d) d t a p
 
 -- the code's four steps, the role masks at `at`
-pub lay-steps : (rs cs : List ℕ) (f : Layout) (s a : List ℕ) (k d t at : ℕ) (old named direct new : List ℕ)
-    → 0 < length old → t ≡ transitivesIn rs → at ≡ rowsAt f d
+pub lay-steps : (t : ℕ) (cs : List ℕ) (f : Layout) (s a : List ℕ) (k d at : ℕ) (old named direct new : List ℕ)
+    → 0 < length old → at ≡ rowsAt f d
     → Names (f .wide) 1 (elementNames cs f s k) (set old 0 d) d named → Masks at (directMasks f s k d) named (d * d) direct → Bytes direct
-    → (length new ≡ length direct) × ((p : ℕ) → byteAt new p ≡ closedByte direct at d t a p) → LaidLine rs cs f s a k d old new
-lay-steps rs cs f s a k d t at old named direct new some e q n r b c = record {
+    → (length new ≡ length direct) × ((p : ℕ) → byteAt new p ≡ closedByte direct at d t a p) → LaidLine t cs f s a k d old new
+lay-steps t cs f s a k d at old named direct new some q n r b c = record {
   counted = set old 0 d;
   named = named;
   direct = direct;
@@ -66,7 +68,7 @@ lay-steps rs cs f s a k d t at old named direct new some e q n r b c = record {
   rows = rw q at r;
   small = b;
   size = c .0;
-  bytes = λ p. c .1 p ∙ ap₂ (λ i m. closedByte direct i d m a p) q e;
+  bytes = λ p. c .1 p ∙ ap (λ i. closedByte direct i d t a p) q;
 }
 
 module _ (rs cs qs : List ℕ) (A : Accepted (describe rs cs qs)) (few : length rs / 3 ≤ 16) (table : length cs / 6 ≤ mostEntries)
@@ -177,19 +179,22 @@ module _ (rs cs qs : List ℕ) (A : Accepted (describe rs cs qs)) (few : length 
           beyond p h = outside p (rw size room) (λ l g. omega arith)
 
   -- so a buffer that the code has filled is the line, and then the old bytes
-  pub laid-line : (a old new : List ℕ) → AncestorsOf rs a → lineLength w d ≤ length old → LaidLine rs cs f s a k d old new
-      → new ≡ lineBytes D (line D G) ++ drop (lineLength w d) old
+  pub laid-line : (R : List Role) (old new : List ℕ) → R ≡ roleTable rs → lineLength w d ≤ length old
+      → LaidLine (transitivesIn R (roleCount rs)) cs f s (ancestorsIn R) k d old new → new ≡ lineBytes D (line D G) ++ drop (lineLength w d) old
   unfolding transitivesIn
-  laid-line a old new anc room L = line-written (L .direct) (L .named) (L .rows) (transitivesIn rs) transitive a
-      (λ r h. ancestor-masks rs cs qs a anc few r (omega arith)) old new
+  laid-line R old new tab room L = line-written (L .direct) (L .named) (L .rows) (transitivesIn R (roleCount rs)) transitive (ancestorsIn R)
+      (λ r h. ancestor-masks rs cs qs (ancestorsIn R) (table-ancestors rs R tab) few r (omega arith)) old new
       (L .rows .whole ∙ L .names .whole ∙ L .count .whole) room
       (L .rows .others 0 (inl (omega arith)) ∙ L .names .others 0 (inl (omega arith)) ∙ L .count .numbers 0 (omega arith))
       name-byte
       (λ p h. L .rows .others p (inr h) ∙ L .names .others p (inr (omega arith)) ∙ L .count .others p (inr (omega arith)))
       (L .size) (L .bytes)
     where
-      transitive : (r : ℕ) → So (has (transitivesIn rs) r) ↔ ((r < D .roles) × So (D .transitive r))
-      transitive r = rw (up-to-all 16 (length rs / 3) few) (setOf↔ (length rs / 3) (λ r. eqb (byteAt rs (3 * r)) 1) r)
+      transitive : (r : ℕ) → So (has (transitivesIn R (roleCount rs)) r) ↔ ((r < D .roles) × So (D .transitive r))
+      transitive r = rw (up-to-all 16 (length rs / 3) few, up-to-all 16 (length rs / 3) few,
+        setOf-cong (length rs / 3) (λ r. eqb (roleAt R r .transitive) 1) (λ r. eqb (byteAt rs (3 * r)) 1)
+            (λ i h. ap (λ b. eqb b 1) (table-bytes rs R tab i (omega arith))))
+          (setOf↔ (length rs / 3) (λ r. eqb (byteAt rs (3 * r)) 1) r)
 
       -- name masks lie before the rows
       name-there : (z : ℕ) → z < d → namesIn (f .wide) (L .direct) (nameAt w z) ≡ elementNames cs f s k z

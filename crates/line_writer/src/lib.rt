@@ -1,17 +1,18 @@
 // Writes the line of a graph.
 ghost use mathlib.Core.Path.{_≡_};
-ghost use mathlib.Core.Bool.{cond};
+ghost use mathlib.Core.Bool.{cond, _&&_};
 ghost use Prim.Native.Nat.{_+_, _*_, _/_, _^_, _≤_, _<_};
 ghost use Rattle.labels.specs.Labels.{mostEntries, wide, nameBytes, valueOf};
-ghost use lib.Dec.{ltb};
+ghost use lib.Dec.{eqb, ltb};
 ghost use lib.ListN.{length};
-ghost use Rattle.tables.specs.Tables.{describe};
+ghost use Rattle.words.specs.Words.{putIn};
+ghost use Rattle.roles.specs.Records.{ancestorsIn};
 ghost use Rattle.answers.specs.Answers.{ofWritten, lengthOf};
 ghost use Rattle.lines.specs.Lines.{mostElements, nameAt, lineLength};
 ghost use Rattle.lines.specs.Laying.{Masks, Names};
 ghost use Rattle.evidence.specs.Evidence.{recordCount};
 ghost use Rattle.line_writer.specs.WriteBytes.{rowsAt, LaidLine};
-ghost use Rattle.line_writer.specs.WriteOrder.{ToldOf, Wrote, partsRefused};
+ghost use Rattle.line_writer.specs.WriteOrder.{ToldOf, OpenedTold};
 ghost use Rattle.line_writer.specs.Writing.{writeAnswer, writeLength, bufferAfter};
 ghost use Rattle.line_writer.specs.WriteSteps.{nameIn, namesOf, elementNames, transitivesIn, rowMasks, directMasks};
 use answers::Tested;
@@ -24,15 +25,17 @@ use evidence::layout_of;
 use evidence::record_edges;
 use evidence::record_label;
 use graph_check::test_sample;
-use intake::directory_ok;
+use intake::concepts_part;
+use intake::open_description;
+use intake::query_part;
 use labels::Label;
 use labels::holds;
 use labels::name_bytes;
 use lines::MOST_ELEMENTS;
 use parts::byte;
-use parts::part;
 use parts::up_to;
-use roles::ancestors;
+use roles::Role;
+use roles::ancestors_of;
 use tables::EntryNo;
 use tables::entry_count;
 use words::put;
@@ -144,15 +147,23 @@ fn lay_rows(buf: &mut [u8], at: usize, s: &[u8], d: u8, k: u8, f: Layout)
     }
 }
 
-// The transitive roles of the part `rs`.
-fn transitive_roles(rs: &[u8]) -> u16
-    ensures { λ r. ⌜ r ≡ transitivesIn (now (rs .entry)) ⌝ }
+// The mask with role `r`, if its record says that it is transitive.
+fn with_transitive(m: u64, x: Role, r: u8) -> u64
+    ensures { λ q. ⌜ q ≡ putIn m r (ltb r 64 && eqb (x .transitive) 1) ⌝ }
 {
-    let n = up_to(16, rs.len() / 3) as usize;
+    put(m, r as usize, x.transitive == 1)
+}
+
+// The transitive ones of so many roles.
+fn transitive_roles(t: [Role; 16], roles: u8) -> u16
+    ensures { λ r. ⌜ r ≡ transitivesIn t roles ⌝ }
+{
+    let n = up_to(16, roles as usize);
     let mut out: u64 = 0;
-    let mut r: usize = 0;
+    let mut r: u8 = 0;
     while r < n {
-        out = put(out, r, byte(rs, 3 * r) == 1);
+        let x = t[r as usize];
+        out = with_transitive(out, x, r);
         r += 1;
     }
     (out % 65536) as u16
@@ -166,16 +177,16 @@ fn rows_at(size: usize, broad: bool) -> usize
     1 + name_bytes(broad) * size
 }
 
-// The line of `d` elements, `k` copies of each record, if `a` holds the ancestors of each role.
-fn lay_line(buf: &mut [u8], rs: &[u8], cs: &[u8], s: &[u8], a: [u16; 16], d: u8, k: u8, f: Layout)
+// The line of `d` elements, `k` copies of each record, with the transitive roles `t` and the ancestors `a` of each role.
+fn lay_line(buf: &mut [u8], t: u16, a: [u16; 16], cs: &[u8], s: &[u8], d: u8, k: u8, f: Layout)
     requires { ⌜ (1 ≤ k) × (lineLength (nameBytes (f .wide)) d ≤ length (now buf)) × (f .wide ≡ wide (length (now cs) / 6)) ⌝ }
-    ensures { λ _. ⌜ LaidLine (now (rs .entry)) (now (cs .entry)) f (now (s .entry)) a k d (now (buf .entry)) (now (buf .exit)) ⌝ }
+    ensures { λ _. ⌜ LaidLine t (now (cs .entry)) f (now (s .entry)) a k d (now (buf .entry)) (now (buf .exit)) ⌝ }
 {
     let at = rows_at(d as usize, f.wide);
     buf[0] = d;
     lay_names(buf, cs, s, d, k, f);
     lay_rows(buf, at, s, d, k, f);
-    close_roles(buf, at, d, transitive_roles(rs), a);
+    close_roles(buf, at, d, t, a);
 }
 
 // The number of elements, with `k` copies of each of `n` records.
@@ -195,9 +206,9 @@ fn line_length(size: usize, broad: bool) -> usize
 }
 
 // 21, 22, and then the line, for a graph that keeps the rules.
-fn write_kept(buf: &mut [u8], rs: &[u8], cs: &[u8], s: &[u8], a: [u16; 16]) -> Written
+fn write_kept(buf: &mut [u8], t: [Role; 16], roles: u8, cs: &[u8], s: &[u8]) -> Written
     requires { ⌜ 1 ≤ recordCount (now s) ⌝ }
-    ensures { λ r. ⌜ ToldOf (now (rs .entry)) (now (cs .entry)) (now (s .entry)) a (now (buf .entry)) (now (buf .exit)) r ⌝ }
+    ensures { λ r. ⌜ ToldOf (transitivesIn t roles) (now (cs .entry)) (now (s .entry)) (ancestorsIn t) (now (buf .entry)) (now (buf .exit)) r ⌝ }
 {
     let f = layout_of(cs);
     let n = byte(s, 1);
@@ -210,18 +221,19 @@ fn write_kept(buf: &mut [u8], rs: &[u8], cs: &[u8], s: &[u8], a: [u16; 16]) -> W
     if buf.len() < len {
         return Written::Refused(22, 0);
     }
-    lay_line(buf, rs, cs, s, a, (size % 256) as u8, (k % 256) as u8, f);
+    let up = transitive_roles(t, roles);
+    let a = ancestors_of(t);
+    lay_line(buf, up, a, cs, s, (size % 256) as u8, (k % 256) as u8, f);
     Written::Line(len)
 }
 
-// Tests 2 to 15 of the parts, then the line.
-fn write_parts(buf: &mut [u8], rs: &[u8], cs: &[u8], qs: &[u8], s: &[u8]) -> Written
-    ensures { λ r. ⌜ Wrote (describe (now (rs .entry)) (now (cs .entry)) (now (qs .entry))) (now (s .entry)) (now (buf .entry)) (now (buf .exit)) r (partsRefused (now (rs .entry)) (now (cs .entry)) (now (qs .entry)) (now (s .entry)) (length (now (buf .entry)))) ⌝ }
+// Tests 9 to 15 of the graph, then the line, by the records of so many roles.
+fn write_opened(buf: &mut [u8], t: [Role; 16], roles: u8, cs: &[u8], qs: &[u8], s: &[u8]) -> Written
+    ensures { λ r. ⌜ OpenedTold t roles (now (cs .entry)) (now (qs .entry)) (now (s .entry)) (now (buf .entry)) (now (buf .exit)) r ⌝ }
 {
-    let a = ancestors(rs);
-    let t = test_sample(rs, cs, qs, a, s);
-    match t {
-        Tested::Fine => write_kept(buf, rs, cs, s, a),
+    let tested = test_sample(t, roles, cs, qs, s);
+    match tested {
+        Tested::Fine => write_kept(buf, t, roles, cs, s),
         Tested::Refused(n, i) => Written::Refused(n, i),
     }
 }
@@ -232,8 +244,11 @@ pub fn write_interpretation(d: &[u8], s: &[u8], buf: &mut [u8]) -> Written
     ensures size { λ r. ⌜ lengthOf r ≡ writeLength (now (d .entry)) (now (s .entry)) (length (now (buf .entry))) ⌝ }
     ensures bytes { λ r. ⌜ now (buf .exit) ≡ bufferAfter (now (d .entry)) (now (s .entry)) (now (buf .entry)) ⌝ }
 {
-    if !directory_ok(d) {
-        return Written::Refused(1, 0);
+    let o = open_description(d);
+    let tested = o.tested;
+    let roles = o.roles;
+    match tested {
+        Tested::Fine => write_opened(buf, roles, o.count, concepts_part(d), query_part(d), s),
+        Tested::Refused(n, i) => Written::Refused(n, i),
     }
-    write_parts(buf, part(d, 0, 0), part(d, 0, 1), part(d, 0, 2), s)
 }

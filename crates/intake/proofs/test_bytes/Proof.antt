@@ -8,7 +8,9 @@ use Rattle.intake.proofs.test_bytes.Reads as reads
 use Rattle.intake.proofs.test_bytes.Lts as lts
 use Rattle.intake.proofs.directory_ok.Reads as directory-ok-reads
 use Rattle.intake.proofs.test_parts.Reads as test-parts-reads
-use Rattle.parts.proofs.part.Reads as part-reads
+use Rattle.intake.proofs.concepts_part.Reads as concepts-part-reads
+use Rattle.intake.proofs.query_part.Reads as query-part-reads
+use Rattle.intake.proofs.roles_part.Reads as roles-part-reads
 
 directory-ok-requires : tie.Need-directory-ok-requires
 directory-ok-requires c κs = search needs
@@ -16,20 +18,20 @@ directory-ok-requires c κs = search needs
 returns : tie.Need-returns
 returns c = λ tab. stops-1 (c .before .before .before .args .d .now) (sym (c .before .directory-ok .ensures) ∙ not-true _ (c .if1 .taken))
 
-part-requires : tie.Need-part-requires
-part-requires c κs = search needs
+roles-part-requires : tie.Need-roles-part-requires
+roles-part-requires c κs = search needs
 
-part-requires-2 : tie.Need-part-requires-2
-part-requires-2 c κs = search needs
+concepts-part-requires : tie.Need-concepts-part-requires
+concepts-part-requires c κs = search needs
 
-part-requires-3 : tie.Need-part-requires-3
-part-requires-3 c κs = search needs
+query-part-requires : tie.Need-query-part-requires
+query-part-requires c κs = search needs
 
 test-parts-requires : tie.Need-test-parts-requires
 test-parts-requires c κs = search needs
 
 returns-2 : tie.Need-returns-2
-returns-2 c = λ tab. c .test-parts .ensures ∙ parts-on (c .before .before .before .before .before .before .before .args .d .now) _ _ _ (c .before .before .before .before .before .before .before .args .t) (sym (c .before .before .before .before .before .directory-ok .ensures) ∙ not-false _ (c .before .before .before .before .if1 .left)) (c .before .before .before .part .ensures) (c .before .before .part2 .ensures) (c .before .part3 .ensures) tab
+returns-2 c = λ tab. c .test-parts .ensures ∙ parts-on (c .before .before .before .before .before .before .before .args .d .now) _ _ _ (c .before .before .before .before .before .before .before .args .t) (sym (c .before .before .before .before .before .directory-ok .ensures) ∙ not-false _ (c .before .before .before .before .if1 .left)) (c .before .before .before .roles-part .ensures) (c .before .before .concepts-part .ensures) (c .before .query-part .ensures) tab
 
 pub test-bytes-spec : {M : Type 1} → statement M
 test-bytes-spec =
@@ -37,8 +39,8 @@ test-bytes-spec =
     (tie.spec
     directory-ok-requires
     returns
-    part-requires
-    part-requires-2
-    part-requires-3
+    roles-part-requires
+    concepts-part-requires
+    query-part-requires
     test-parts-requires
     returns-2)

@@ -1,44 +1,54 @@
-use mathlib.Core.Path.{_∙_, sym}
-use borrow.Author.Tests.{not-true, not-false}
-use Rattle.line_reader.specs.Order.{directory-refused, directory-goes-on}
+use mathlib.Core.Path.{_∙_, sym, ap}
+use Rattle.answers.specs.Answers.{refusalOf}
+use Rattle.line_reader.specs.Order.{read-ready, read-opened, read-refused}
 use borrow.Author.Needs.{needs}
 use Rattle.line_reader.proofs.read_interpretation.Statement.{statement}
 use Rattle.line_reader.proofs.read_interpretation.Tie as tie
 use Rattle.line_reader.proofs.read_interpretation.Reads as reads
 use Rattle.line_reader.proofs.read_interpretation.Lts as lts
-use Rattle.intake.proofs.directory_ok.Reads as directory-ok-reads
-use Rattle.line_reader.proofs.read_parts.Reads as read-parts-reads
-use Rattle.parts.proofs.part.Reads as part-reads
+use Rattle.intake.proofs.concepts_part.Reads as concepts-part-reads
+use Rattle.intake.proofs.open_description.Reads as open-description-reads
+use Rattle.intake.proofs.query_part.Reads as query-part-reads
+use Rattle.intake.proofs.roles_part.Reads as roles-part-reads
+use Rattle.line_reader.proofs.read_line.Reads as read-line-reads
 
-directory-ok-requires : tie.Need-directory-ok-requires
-directory-ok-requires c κs = search needs
+open-description-requires : tie.Need-open-description-requires
+open-description-requires c κs = search needs
+
+enum-told : tie.Need-enum-told
+enum-told c = search needs
+
+roles-part-requires : tie.Need-roles-part-requires
+roles-part-requires c κs = search needs
+
+concepts-part-requires : tie.Need-concepts-part-requires
+concepts-part-requires c κs = search needs
+
+query-part-requires : tie.Need-query-part-requires
+query-part-requires c κs = search needs
+
+read-line-requires : tie.Need-read-line-requires
+read-line-requires c κs = read-ready (c .before .before .before .before .before .before .before .before .args .d .now) (c .before .before .before .before .before .before .before .before .args .s .now) (sym (ap refusalOf (c .before .before .before .enum-told .given .1)) ∙ c .before .before .before .before .before .open-description .ensures .tested) _ _ _ (c .before .before .roles-part .ensures) (c .before .concepts-part .ensures) (c .query-part .ensures)
+
+enum-known-tested : tie.Need-enum-known-tested
+enum-known-tested c = search needs
 
 returns : tie.Need-returns
-returns c = directory-refused (c .before .before .before .before .args .d .now) (c .before .before .before .before .args .s .now) (sym (c .before .directory-ok .ensures) ∙ not-true _ (c .if1 .taken))
-
-part-requires : tie.Need-part-requires
-part-requires c κs = search needs
-
-part-requires-2 : tie.Need-part-requires-2
-part-requires-2 c κs = search needs
-
-part-requires-3 : tie.Need-part-requires-3
-part-requires-3 c κs = search needs
-
-read-parts-requires : tie.Need-read-parts-requires
-read-parts-requires c κs = search needs
+returns c = c .read-line .ensures ∙ read-opened (c .before .before .before .before .before .before .before .before .before .args .d .now) (c .before .before .before .before .before .before .before .before .before .args .s .now) (sym (ap refusalOf (c .before .before .before .before .enum-told .given .1)) ∙ c .before .before .before .before .before .before .open-description .ensures .tested) _ _ _ (c .before .before .before .roles-part .ensures) (c .before .before .concepts-part .ensures) (c .before .query-part .ensures)
 
 returns-2 : tie.Need-returns-2
-returns-2 c = c .read-parts .ensures ∙ directory-goes-on (c .before .before .before .before .before .before .before .before .args .d .now) (c .before .before .before .before .before .before .before .before .args .s .now) _ _ _ (sym (c .before .before .before .before .before .directory-ok .ensures) ∙ not-false _ (c .before .before .before .before .if1 .left)) (c .before .before .before .part .ensures) (c .before .before .part2 .ensures) (c .before .part3 .ensures)
+returns-2 c = read-refused (c .before .before .before .before .before .before .args .d .now) (c .before .before .before .before .before .before .args .s .now)  _ _ (sym (ap refusalOf (c .before .tested .given .1)) ∙ c .before .before .before .open-description .ensures .tested)
 
 pub read-interpretation-spec : {M : Type 1} → statement M
 read-interpretation-spec =
     tie.close
     (tie.spec
-    directory-ok-requires
+    open-description-requires
+    enum-told
+    roles-part-requires
+    concepts-part-requires
+    query-part-requires
+    read-line-requires
+    enum-known-tested
     returns
-    part-requires
-    part-requires-2
-    part-requires-3
-    read-parts-requires
     returns-2)
