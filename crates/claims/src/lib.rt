@@ -110,7 +110,15 @@ fn told(t: Tested, p: Pieces) -> Judgement
 }
 
 // The answer on an opened description with a claim, by the records of so many roles.
-fn check_opened(roles: [Role; 16], count: u8, cs: &[u8], qs: &[u8], k: Claim, first: &[u8], second: &[u8]) -> Judgement
+fn check_opened(
+    roles: [Role; 16],
+    count: u8,
+    cs: &[u8],
+    qs: &[u8],
+    k: Claim,
+    first: &[u8],
+    second: &[u8],
+) -> Judgement
     ensures { λ r. ⌜ ofJudgement r ≡ openedClaim roles count (now (cs .entry)) (now (qs .entry)) (k .c) (k .d) (now (first .entry)) (now (second .entry)) ⌝ }
 {
     let p = kinds(first, second);
@@ -126,7 +134,10 @@ fn check_opened(roles: [Role; 16], count: u8, cs: &[u8], qs: &[u8], k: Claim, fi
             };
             told(test_graph(roles, count, cs, qs, only(k.c), second), p)
         }
-        Pieces::GraphAlone => told(test_graph(roles, count, cs, qs, counterexample(k), first), p),
+        Pieces::GraphAlone => told(
+            test_graph(roles, count, cs, qs, counterexample(k), first),
+            p,
+        ),
         Pieces::ListAlone => told(test_list(roles, cs, qs, only(k.c), first), p),
         Pieces::Misfit => told(t, p),
         Pieces::Off => told(t, p),
@@ -144,6 +155,6 @@ pub fn check_claim(description: &[u8], c: u8, d: u8, first: &[u8], second: &[u8]
     let qs = query_part(description);
     match tested {
         Tested::Fine => check_opened(roles, o.count, cs, qs, Claim { c: c, d: d }, first, second),
-        Tested::Refused(n, i) => Judgement::Refused(n, i),
+        Tested::Refused(n, r) => Judgement::Refused(n, r),
     }
 }

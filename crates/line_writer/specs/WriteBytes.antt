@@ -191,9 +191,12 @@ module _ (rs cs qs : List ℕ) (A : Accepted (describe rs cs qs)) (few : length 
       (L .size) (L .bytes)
     where
       transitive : (r : ℕ) → So (has (transitivesIn R (roleCount rs)) r) ↔ ((r < D .roles) × So (D .transitive r))
-      transitive r = rw (up-to-all 16 (length rs / 3) few, up-to-all 16 (length rs / 3) few,
+      transitive r = rw (
+        up-to-all 16 (length rs / 3) few,
+        up-to-all 16 (length rs / 3) few,
         setOf-cong (length rs / 3) (λ r. eqb (roleAt R r .transitive) 1) (λ r. eqb (byteAt rs (3 * r)) 1)
-            (λ i h. ap (λ b. eqb b 1) (table-bytes rs R tab i (omega arith))))
+            (λ i h. ap (λ b. eqb b 1) (table-bytes rs R tab i (omega arith))),
+      )
           (setOf↔ (length rs / 3) (λ r. eqb (byteAt rs (3 * r)) 1) r)
 
       -- name masks lie before the rows

@@ -50,6 +50,6 @@ pub fn check_evidence(d: &[u8], s: &[u8]) -> Verdict
     let roles = o.roles;
     match tested {
         Tested::Fine => check_opened(roles, o.count, concepts_part(d), query_part(d), s),
-        Tested::Refused(n, i) => Verdict::Refused(n, i),
+        Tested::Refused(n, r) => Verdict::Refused(n, r),
     }
 }

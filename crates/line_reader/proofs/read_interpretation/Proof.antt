@@ -37,7 +37,7 @@ returns : tie.Need-returns
 returns c = c .read-line .ensures ∙ read-opened (c .before .before .before .before .before .before .before .before .before .args .d .now) (c .before .before .before .before .before .before .before .before .before .args .s .now) (sym (ap refusalOf (c .before .before .before .before .enum-told .given .1)) ∙ c .before .before .before .before .before .before .open-description .ensures .tested) _ _ _ (c .before .before .before .roles-part .ensures) (c .before .before .concepts-part .ensures) (c .before .query-part .ensures)
 
 returns-2 : tie.Need-returns-2
-returns-2 c = read-refused (c .before .before .before .before .before .before .args .d .now) (c .before .before .before .before .before .before .args .s .now)  _ _ (sym (ap refusalOf (c .before .tested .given .1)) ∙ c .before .before .before .open-description .ensures .tested)
+returns-2 c = read-refused (c .before .before .before .before .before .before .args .d .now) (c .before .before .before .before .before .before .args .s .now) _ _ (sym (ap refusalOf (c .before .tested .given .1)) ∙ c .before .before .before .open-description .ensures .tested)
 
 pub read-interpretation-spec : {M : Type 1} → statement M
 read-interpretation-spec =
