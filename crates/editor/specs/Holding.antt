@@ -1,6 +1,7 @@
 -- The editor's state (02, job 4): the state that holds a draft, and what an operation gives.
 use Prim.Native.Nat.{ℕ, _+_, _-_, _*_, _<_}
 use mathlib.Core.Path.{_≡_}
+use mathlib.Core.Bool.{Bool}
 use mathlib.Core.List.{List, _++_}
 use lib.ListN.{length, replicate, take, drop}
 use Rattle.roles.specs.Records.{roleTable}
@@ -48,4 +49,17 @@ withRoles s roles n = record {
   entries = s .entries;
   rooted = s .rooted;
   rules = s .rules;
+}
+
+-- the state with another query
+abbrev pub withQuery : Editor → List ℕ → Bool → ℕ → Editor
+withQuery s query rooted rules = record {
+  roles = s .roles;
+  concepts = s .concepts;
+  query = query;
+  table = s .table;
+  count = s .count;
+  entries = s .entries;
+  rooted = rooted;
+  rules = rules;
 }

@@ -1,3 +1,4 @@
 pub mod Holding
 pub mod FillLaws
 pub mod StateLaws
+pub mod QueryLaws

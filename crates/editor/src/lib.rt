@@ -7,7 +7,7 @@ ghost use denote.Ref.{now};
 ghost use Rattle.laying.specs.Numbers.{two};
 ghost use Rattle.laying.specs.Laying.{laid};
 ghost use Rattle.answers.specs.declared.Change.the-variants.{Done, Refused};
-ghost use Rattle.editing.specs.Editing.{Draft, nothing, newRole};
+ghost use Rattle.editing.specs.Editing.{Draft, nothing, newRole, newRoot, newRule};
 ghost use Rattle.editor.specs.Holding.{Holds, Edits, withRoles};
 use answers::Change;
 use laying::copy_bytes;
@@ -108,4 +108,36 @@ pub fn add_role(s: Editor, transitive: u8) -> Edited
     let roles = s.roles;
     let more = lay_role(roles, n, transitive, 0);
     done(with_roles(s, more, n + 1))
+}
+
+// Sets the root. One that was set before is forgotten.
+pub fn set_root(s: Editor, literal: u8) -> Edited
+    ensures made { λ r. ⌜ ((T : Draft) → Holds s T → Edits T (newRoot literal) r) ⌝ }
+    ensures kept { λ r. ⌜ ((n m : ℕ) → r .answer ≡ Refused n m → r .state ≡ s) ⌝ }
+{
+    if 2 * (s.entries as usize) <= (literal as usize) {
+        return refused(s, 8);
+    }
+    let mut next = s;
+    next.query[0] = literal;
+    next.rooted = true;
+    done(next)
+}
+
+// Adds a rule, behind those that are there.
+pub fn add_rule(s: Editor, literal: u8) -> Edited
+    ensures made { λ r. ⌜ ((T : Draft) → Holds s T → Edits T (newRule literal) r) ⌝ }
+    ensures kept { λ r. ⌜ ((n m : ℕ) → r .answer ≡ Refused n m → r .state ≡ s) ⌝ }
+{
+    let n = s.rules;
+    if 16 <= n {
+        return refused(s, 25);
+    }
+    if 2 * (s.entries as usize) <= (literal as usize) {
+        return refused(s, 8);
+    }
+    let mut next = s;
+    next.query[1 + (n as usize)] = literal;
+    next.rules = n + 1;
+    done(next)
 }

@@ -127,7 +127,7 @@ module _ (rs cs qs : List ℕ) (t : List Role) (tab : t ≡ roleTable rs) (few :
         ∙ ap (λ b. b ⇒ not (sameFields (fieldsOf (D .entry e)) (fieldsOf (D .entry f)))) (sym (compound-kind (D .entry e)))
 
 -- 8: the root, then the rules
-literal-is : (x m : ℕ) → ltb x (2 * m) ≡ ltb (entryOf (literal x)) m
+pub literal-is : (x m : ℕ) → ltb x (2 * m) ≡ ltb (entryOf (literal x)) m
 literal-is x m = same-test _ _
     (λ h. ltb-so _ _ (code-entry (literal x) m .0 (rw (code-literal x) (so-ltb x (2 * m) h))))
     (λ h. ltb-so x (2 * m) (rw (code-literal x) at (code-entry (literal x) m .1 (so-ltb _ _ h))))
