@@ -2,3 +2,4 @@ pub mod Holding
 pub mod FillLaws
 pub mod StateLaws
 pub mod QueryLaws
+pub mod WriteLaws

@@ -2,15 +2,24 @@
 ghost use mathlib.Core.Path.{_≡_};
 ghost use Prim.Native.Nat.{ℕ, _+_, _*_, _<_, _≤_};
 ghost use mathlib.Core.List.{[], _∷_};
-ghost use lib.ListN.{length};
+ghost use mathlib.Core.Bool.{_&&_};
+ghost use lib.Dec.{leb};
+ghost use lib.ListN.{length, drop};
 ghost use denote.Ref.{now};
 ghost use Rattle.laying.specs.Numbers.{two};
-ghost use Rattle.laying.specs.Laying.{laid};
+ghost use Rattle.laying.specs.Laying.{laid, laidFrom};
 ghost use Rattle.answers.specs.declared.Change.the-variants.{Done, Refused};
 ghost use Rattle.editing.specs.Editing.{Draft, nothing, newRole, newRoot, newRule};
+ghost use Rattle.answers.specs.declared.Output.the-variants as Outputs;
+ghost use Rattle.answers.specs.declared.Output.the-variants.{Bytes};
+ghost use Rattle.answers.specs.Answers.{ofOutput, sizeOf};
+ghost use Rattle.edit_bytes.specs.Out.{outAnswer, outLength, outBuffer};
 ghost use Rattle.editor.specs.Holding.{Holds, Edits, withRoles};
+ghost use Rattle.editor.specs.WriteLaws.{pairsOf, sizeHeld, piecesHeld};
 use answers::Change;
+use answers::Output;
 use laying::copy_bytes;
+use laying::put2;
 use parts::span;
 use roles::Role;
 use roles::role_table;
@@ -140,4 +149,73 @@ pub fn add_rule(s: Editor, literal: u8) -> Edited
     next.query[1 + (n as usize)] = literal;
     next.rules = n + 1;
     done(next)
+}
+
+// Whether a role, entry 0 and a root are there.
+fn is_whole(count: u8, entries: u8, rooted: bool) -> bool
+    ensures { λ r. ⌜ r ≡ (leb 1 count && (leb 1 entries && rooted)) ⌝ }
+{
+    (1 <= count) & ((1 <= entries) & rooted)
+}
+
+// The three pairs, of parts of `a`, `b` and `c` bytes.
+fn lay_pairs(buf: &mut [u8], a: u16, b: u16, c: u16)
+    requires { ⌜ (12 ≤ length (now buf)) × (12 + a + b < 65536) ⌝ }
+    ensures { λ _. ⌜ now (buf .exit) ≡ laid (now (buf .entry)) 0 (pairsOf a b c) ⌝ }
+{
+    put2(buf, 0, 12);
+    put2(buf, 2, a);
+    put2(buf, 4, 12 + a);
+    put2(buf, 6, b);
+    put2(buf, 8, 12 + a + b);
+    put2(buf, 10, c);
+}
+
+// The three parts, behind the pairs.
+fn lay_parts(buf: &mut [u8], rs: &[u8], cs: &[u8], qs: &[u8])
+    requires { ⌜ 12 + length (now rs) + length (now cs) + length (now qs) ≤ length (now buf) ⌝ }
+    ensures { λ _. ⌜ now (buf .exit) ≡ laidFrom 12 (now (rs .entry) ∷ now (cs .entry) ∷ now (qs .entry) ∷ []) (now (buf .entry)) ⌝ }
+{
+    copy_bytes(buf, 12, rs);
+    copy_bytes(buf, 12 + rs.len(), cs);
+    copy_bytes(buf, 12 + rs.len() + cs.len(), qs);
+}
+
+// All of it: the state's three parts with their pairs.
+fn lay_out(buf: &mut [u8], s: Editor)
+    requires { ⌜ sizeHeld s ≤ length (now buf) ⌝ }
+    ensures { λ _. ⌜ now (buf .exit) ≡ laidFrom 0 (piecesHeld s) (now (buf .entry)) ⌝ }
+{
+    let query = s.query;
+    let qs = span(&query, 0, 1 + (s.rules as usize));
+    let concepts = s.concepts;
+    let cs = span(&concepts, 0, 6 * (s.entries as usize));
+    let roles = s.roles;
+    let rs = span(&roles, 0, 3 * (s.count as usize));
+    lay_pairs(
+        buf,
+        3 * (s.count as u16),
+        6 * (s.entries as u16),
+        1 + (s.rules as u16),
+    );
+    lay_parts(buf, rs, cs, qs);
+}
+
+// Writes the description out: three pairs and the three parts, exactly what was put in.
+pub fn write_out(s: Editor, buf: &mut [u8]) -> Output
+    ensures answer { λ r. ⌜ ((T : Draft) → Holds s T → ofOutput r ≡ outAnswer T (length (now (buf .entry)))) ⌝ }
+    ensures size { λ r. ⌜ ((T : Draft) → Holds s T → sizeOf r ≡ outLength T (length (now (buf .entry)))) ⌝ }
+    ensures bytes { λ r. ⌜ ((T : Draft) → Holds s T → now (buf .exit) ≡ outBuffer T (now (buf .entry))) ⌝ }
+    ensures kept { λ r. ⌜ ((n m : ℕ) → r ≡ Outputs.Refused n m → now (buf .exit) ≡ now (buf .entry)) ⌝ }
+    ensures past { λ r. ⌜ ((n : ℕ) → r ≡ Bytes n → drop n (now (buf .exit)) ≡ drop n (now (buf .entry))) ⌝ }
+{
+    if !is_whole(s.count, s.entries, s.rooted) {
+        return Output::Refused(2, 0);
+    }
+    let n = 13 + 3 * (s.count as usize) + 6 * (s.entries as usize) + (s.rules as usize);
+    if buf.len() < n {
+        return Output::Refused(22, 0);
+    }
+    lay_out(buf, s);
+    Output::Bytes(n)
 }
