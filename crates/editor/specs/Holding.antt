@@ -2,8 +2,12 @@
 use Prim.Native.Nat.{ℕ, _+_, _-_, _*_, _<_}
 use mathlib.Core.Path.{_≡_}
 use mathlib.Core.Bool.{Bool}
-use mathlib.Core.List.{List, _++_}
+use mathlib.Core.List.{List, _∷_, _++_}
 use lib.ListN.{length, replicate, take, drop}
+use Rattle.logic.specs.Sets.{with}
+use Rattle.parts.specs.Numbers.{byteAt, num2}
+use Rattle.laying.specs.Numbers.{two}
+use Rattle.laying.specs.Laying.{laid}
 use Rattle.roles.specs.Records.{roleTable}
 use Rattle.answers.specs.Answers.{wholly, answer, DONE, ofChange}
 use Rattle.editing.specs.Editing.{Draft, isSet, Edit, refusal, edited, Made}
@@ -50,6 +54,10 @@ withRoles s roles n = record {
   rooted = s .rooted;
   rules = s .rules;
 }
+
+-- the bytes of the roles with the bit of p in the parents of r
+abbrev pub withParent : List ℕ → ℕ → ℕ → List ℕ
+withParent roles r p = laid roles (3 * r) (byteAt roles (3 * r) ∷ two (with (num2 roles (3 * r + 1)) p))
 
 -- the state with another query
 abbrev pub withQuery : Editor → List ℕ → Bool → ℕ → Editor

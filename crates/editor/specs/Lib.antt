@@ -3,3 +3,5 @@ pub mod FillLaws
 pub mod StateLaws
 pub mod QueryLaws
 pub mod WriteLaws
+pub mod TestLaws
+pub mod InclusionLaws

@@ -72,7 +72,7 @@ unfolding filled rolesOut conceptsOut flatten
 starts t q = record { made = start; state = q }
 
 -- other roles
-roles-state : (T : Draft) (R : List RoleIn) (bytes : List ℕ) (n : ℕ) → n ≡ length R
+pub roles-state : (T : Draft) (R : List RoleIn) (bytes : List ℕ) (n : ℕ) → n ≡ length R
     → bytes ≡ filled 48 (rolesOut (record { roles = R; entries = T .entries; root = T .root; rules = T .rules }))
     → withRoles (stateOf T) bytes n ≡ stateOf (record { roles = R; entries = T .entries; root = T .root; rules = T .rules })
 unfolding conceptsOut
@@ -101,7 +101,7 @@ new-role T b k = filled-on 48 (rolesOut T) (b ∷ two 0) (3 * length (T .roles))
     ∙ ap (filled 48) (sym (bytes-snoc 3 roleBytes (λ R. refl) (T .roles) (record { transitive = b; parents = 0 })))
 
 module _ (s : Editor) (T : Draft) (h : Holds s T) where
-  counted : s .count ≡ length (T .roles)
+  pub counted : s .count ≡ length (T .roles)
   counted = ap (λ s. s .count) (h .state)
 
   -- the record of each role that is there is true: its ancestors, and whether it is simple, are those of the description so far

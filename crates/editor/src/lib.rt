@@ -1,28 +1,34 @@
 // The editor of a description: a state by value, and operations that give the next one.
 ghost use mathlib.Core.Path.{_≡_};
-ghost use Prim.Native.Nat.{ℕ, _+_, _*_, _<_, _≤_};
+ghost use Prim.Native.Nat.{ℕ, _+_, _*_, _%_, _<_, _≤_};
 ghost use mathlib.Core.List.{[], _∷_};
 ghost use mathlib.Core.Bool.{_&&_};
-ghost use lib.Dec.{leb};
+ghost use lib.Dec.{leb, ltb};
 ghost use lib.ListN.{length, drop};
 ghost use denote.Ref.{now};
+ghost use Rattle.logic.specs.Sets.{with};
 ghost use Rattle.laying.specs.Numbers.{two};
 ghost use Rattle.laying.specs.Laying.{laid, laidFrom};
 ghost use Rattle.answers.specs.declared.Change.the-variants.{Done, Refused};
-ghost use Rattle.editing.specs.Editing.{Draft, nothing, newRole, newRoot, newRule};
+ghost use Rattle.editing.specs.Editing.{Draft, nothing, newRole, inclusion, newRoot, newRule};
 ghost use Rattle.answers.specs.declared.Output.the-variants as Outputs;
 ghost use Rattle.answers.specs.declared.Output.the-variants.{Bytes};
 ghost use Rattle.answers.specs.Answers.{ofOutput, sizeOf};
 ghost use Rattle.edit_bytes.specs.Out.{outAnswer, outLength, outBuffer};
-ghost use Rattle.editor.specs.Holding.{Holds, Edits, withRoles};
+ghost use Rattle.editor.specs.Holding.{Holds, Edits, withRoles, withParent};
 ghost use Rattle.editor.specs.WriteLaws.{pairsOf, sizeHeld, piecesHeld};
 use answers::Change;
 use answers::Output;
+use intake::everys::everys_ok;
+use intake::simples_ok;
 use laying::copy_bytes;
 use laying::put2;
+use parts::byte;
+use parts::mask2;
 use parts::span;
 use roles::Role;
 use roles::role_table;
+use tables::RoleNo;
 
 // The three parts as they are written out, with zeros behind them; the records of the roles; and how much of each table is there.
 pub struct Editor {
@@ -117,6 +123,54 @@ pub fn add_role(s: Editor, transitive: u8) -> Edited
     let roles = s.roles;
     let more = lay_role(roles, n, transitive, 0);
     done(with_roles(s, more, n + 1))
+}
+
+// Whether both are roles of a table of `n`.
+fn are_roles(r: RoleNo, p: RoleNo, n: u8) -> bool
+    ensures { λ q. ⌜ q ≡ (ltb (r .0) n && ltb (p .0) n) ⌝ }
+{
+    (r.0 < n) & (p.0 < n)
+}
+
+// The mask with the bit of `p`.
+fn with_bit(x: u16, p: RoleNo) -> u16
+    ensures { λ q. ⌜ q ≡ with x (p .0 % 16) ⌝ }
+{
+    x | (1 << (p.0 % 16))
+}
+
+// The bytes of the roles with the bit of `p` in the parents of `r`.
+fn with_parent(roles: [u8; 48], r: RoleNo, p: RoleNo) -> [u8; 48]
+    ensures { λ q. ⌜ q ≡ withParent roles (r .0 % 16) (p .0 % 16) ⌝ }
+{
+    let i = r.0 % 16;
+    let at = 3 * (i as usize);
+    let parents = with_bit(mask2(&roles, at + 1), p);
+    lay_role(roles, i, byte(&roles, at), parents)
+}
+
+// Includes role `r` in role `p`. All entries are tested with the new records: a role that is neither may be harmed.
+pub fn add_inclusion(s: Editor, r: RoleNo, p: RoleNo) -> Edited
+    ensures made { λ q. ⌜ ((T : Draft) → Holds s T → Edits T (inclusion (r .0) (p .0)) q) ⌝ }
+    ensures kept { λ q. ⌜ ((n m : ℕ) → q .answer ≡ Refused n m → q .state ≡ s) ⌝ }
+{
+    let n = s.count;
+    if !are_roles(r, p, n) {
+        return refused(s, 3);
+    }
+    let roles = s.roles;
+    let more = with_parent(roles, r, p);
+    let next = with_roles(s, more, n);
+    let table = next.table;
+    let concepts = s.concepts;
+    let cs = span(&concepts, 0, 6 * (s.entries as usize));
+    if !simples_ok(cs, table) {
+        return refused(s, 5);
+    }
+    if !everys_ok(cs, table, n) {
+        return refused(s, 7);
+    }
+    done(next)
 }
 
 // Sets the root. One that was set before is forgotten.
