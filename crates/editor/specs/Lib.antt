@@ -5,3 +5,4 @@ pub mod QueryLaws
 pub mod WriteLaws
 pub mod TestLaws
 pub mod InclusionLaws
+pub mod ConceptLaws

@@ -10,17 +10,23 @@ ghost use Rattle.logic.specs.Sets.{with};
 ghost use Rattle.laying.specs.Numbers.{two};
 ghost use Rattle.laying.specs.Laying.{laid, laidFrom};
 ghost use Rattle.answers.specs.declared.Change.the-variants.{Done, Refused};
-ghost use Rattle.editing.specs.Editing.{Draft, nothing, newRole, inclusion, newRoot, newRule};
+ghost use Rattle.labels.specs.Labels.{mostEntries};
+ghost use Rattle.tables.specs.Concepts.{fieldsIn};
+ghost use Rattle.editing.specs.Editing.{Draft, nothing, newRole, inclusion, concept, newRoot, newRule};
 ghost use Rattle.answers.specs.declared.Output.the-variants as Outputs;
 ghost use Rattle.answers.specs.declared.Output.the-variants.{Bytes};
 ghost use Rattle.answers.specs.Answers.{ofOutput, sizeOf};
 ghost use Rattle.edit_bytes.specs.Out.{outAnswer, outLength, outBuffer};
-ghost use Rattle.editor.specs.Holding.{Holds, Edits, withRoles, withParent};
+ghost use Rattle.editor.specs.Holding.{Holds, Edits, withRoles, withParent, withConcepts, sixBytes};
 ghost use Rattle.editor.specs.WriteLaws.{pairsOf, sizeHeld, piecesHeld};
 use answers::Change;
 use answers::Output;
+use intake::distinct_ok;
+use intake::everys::every_at;
 use intake::everys::everys_ok;
+use intake::simple_ok;
 use intake::simples_ok;
+use labels::MOST_ENTRIES;
 use laying::copy_bytes;
 use laying::put2;
 use parts::byte;
@@ -28,7 +34,10 @@ use parts::mask2;
 use parts::span;
 use roles::Role;
 use roles::role_table;
+use tables::EntryNo;
+use tables::Fields;
 use tables::RoleNo;
+use tables::fields_ok;
 
 // The three parts as they are written out, with zeros behind them; the records of the roles; and how much of each table is there.
 pub struct Editor {
@@ -171,6 +180,57 @@ pub fn add_inclusion(s: Editor, r: RoleNo, p: RoleNo) -> Edited
         return refused(s, 7);
     }
     done(next)
+}
+
+// The bytes of the concepts with those of entry `e`.
+fn lay_entry(concepts: [u8; 384], e: u8, f: Fields) -> [u8; 384]
+    requires { ⌜ e < mostEntries ⌝ }
+    ensures { λ r. ⌜ r ≡ laid concepts (6 * e) (sixBytes f) ⌝ }
+{
+    let high = (f.number / 256 % 256) as u8;
+    let low = (f.number % 256) as u8;
+    let bytes = [f.kind, f.role, f.first, f.second, high, low];
+    let mut out = concepts;
+    copy_bytes(&mut out, 6 * (e as usize), &bytes);
+    out
+}
+
+// The state with the bytes of `n` entries.
+fn with_concepts(s: Editor, concepts: [u8; 384], n: u8) -> Editor
+    ensures { λ r. ⌜ r ≡ withConcepts s concepts n ⌝ }
+{
+    let mut next = s;
+    next.concepts = concepts;
+    next.entries = n;
+    next
+}
+
+// Adds a concept, as the next entry. The tests read the entries that are there and the new one, and no byte behind it.
+pub fn add_concept(s: Editor, f: Fields) -> Edited
+    ensures made { λ r. ⌜ ((T : Draft) → Holds s T → Edits T (concept (fieldsIn f)) r) ⌝ }
+    ensures kept { λ r. ⌜ ((n m : ℕ) → r .answer ≡ Refused n m → r .state ≡ s) ⌝ }
+{
+    let n = s.entries;
+    if MOST_ENTRIES <= n {
+        return refused(s, 25);
+    }
+    if !fields_ok(f, EntryNo(n), s.count as usize) {
+        return refused(s, 4);
+    }
+    let concepts = s.concepts;
+    let more = lay_entry(concepts, n, f);
+    let table = s.table;
+    let cs = span(&more, 0, 6 * (n as usize) + 6);
+    if !simple_ok(cs, EntryNo(n), table) {
+        return refused(s, 5);
+    }
+    if !distinct_ok(cs, EntryNo(n)) {
+        return refused(s, 6);
+    }
+    if !every_at(cs, table, s.count, EntryNo(n)) {
+        return refused(s, 7);
+    }
+    done(with_concepts(s, more, n + 1))
 }
 
 // Sets the root. One that was set before is forgotten.

@@ -69,17 +69,14 @@ stepsTest rs cs qs t = unless (sizesTest rs cs qs) 2 (unless (rolesCode rs) 3 (u
 
 -- ---- each is the test of the description
 -- 4: the fields test is "of the form of an entry, and that entry keeps its rule"
-pub entries-are : (rs cs qs : List ℕ) (e : ℕ) → fieldsTest (length rs / 3) e (fieldsAt cs e) ≡ (entryForm cs e && entryTest (describe rs cs qs) e (entryOfFields (fieldsAt cs e)))
-entries-are rs cs qs e = same-test _ _
+pub fields-are : (D : Description) (e : ℕ) (F : Fields) → fieldsTest (D .roles) e F ≡ (sameFields F (fieldsOf (entryOfFields F)) && entryTest D e (entryOfFields F))
+fields-are D e F = same-test _ _
     (λ h. let w = fields↔ D e F .0 h in let x = ap entryOfFields (w .1) ∙ entry-back (w .0) in
     so-and _ _ (sameFields↔ F _ .1 (w .1 ∙ ap fieldsOf (sym x))) (entry↔ D e (entryOfFields F) .1 (subst (EntryOk D e) (sym x) (w .2))))
-    (λ h. fields↔ D e F .1 (entryOfFields F, sameFields↔ F _ .0 (and-l _ _ h), entry↔ D e (entryOfFields F) .0 (and-r (entryForm cs e) _ h)))
-  where
-    D : Description
-    D = describe rs cs qs
+    (λ h. fields↔ D e F .1 (entryOfFields F, sameFields↔ F _ .0 (and-l _ _ h), entry↔ D e (entryOfFields F) .0 (and-r (sameFields F (fieldsOf (entryOfFields F))) _ h)))
 
-    F : Fields
-    F = fieldsAt cs e
+pub entries-are : (rs cs qs : List ℕ) (e : ℕ) → fieldsTest (length rs / 3) e (fieldsAt cs e) ≡ (entryForm cs e && entryTest (describe rs cs qs) e (entryOfFields (fieldsAt cs e)))
+entries-are rs cs qs e = fields-are (describe rs cs qs) e (fieldsAt cs e)
 
 compound-kind : (x : Entry) → compound x ≡ leb 2 (fieldsOf x .kind)
 compound-kind top = refl
