@@ -29,8 +29,9 @@ use Rattle.editing.specs.NewConcept.{grown, grows, new-entry, simple-same, dist
 use Rattle.editing.specs.Answers.{concept-answers}
 use Rattle.edit_bytes.specs.Out.{entryBytes, rolesOut, conceptsOut}
 use Rattle.edit_bytes.specs.OutLaws.{concepts-long}
+use Rattle.edit_lay.specs.Lays.{sixBytes}
 use Rattle.editor.specs.declared.Editor.{Editor}
-use Rattle.editor.specs.Holding.{filled, stateOf, Holds, withConcepts, sixBytes}
+use Rattle.editor.specs.Holding.{filled, stateOf, Holds, withConcepts}
 use Rattle.editor.specs.FillLaws.{filled-on, filled-front, bytes-snoc}
 use Rattle.editor.specs.StateLaws.{counted}
 use Rattle.editor.specs.TestLaws.{simple-held, distinct-held, every-held}

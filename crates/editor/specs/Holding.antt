@@ -1,14 +1,9 @@
 -- The editor's state (02, job 4): the state that holds a draft, and what an operation gives.
-use Prim.Native.Nat.{ℕ, _+_, _-_, _*_, _/_, _%_}
+use Prim.Native.Nat.{ℕ, _-_, _*_}
 use mathlib.Core.Path.{_≡_}
 use mathlib.Core.Bool.{Bool}
-use mathlib.Core.List.{List, [], _∷_, _++_}
+use mathlib.Core.List.{List, _++_}
 use lib.ListN.{length, replicate, take, drop}
-use Rattle.logic.specs.Sets.{with}
-use Rattle.parts.specs.Numbers.{byteAt, num2}
-use Rattle.laying.specs.Numbers.{two}
-use Rattle.laying.specs.Laying.{laid}
-use Rattle.tables.specs.declared.Fields.{Fields}
 use Rattle.roles.specs.Records.{roleTable}
 use Rattle.answers.specs.Answers.{wholly, answer, DONE, ofChange}
 use Rattle.editing.specs.Editing.{Draft, isSet, Edit, refusal, edited, Made}
@@ -56,14 +51,7 @@ withRoles s roles n = record {
   rules = s .rules;
 }
 
--- the bytes of the roles with the bit of p in the parents of r
-abbrev pub withParent : List ℕ → ℕ → ℕ → List ℕ
-withParent roles r p = laid roles (3 * r) (byteAt roles (3 * r) ∷ two (with (num2 roles (3 * r + 1)) p))
-
--- the six bytes of an entry; the state with the bytes of n entries
-abbrev pub sixBytes : Fields → List ℕ
-sixBytes f = f .kind ∷ f .role ∷ f .first ∷ f .second ∷ f .number / 256 % 256 ∷ f .number % 256 ∷ []
-
+-- the state with the bytes of n entries
 abbrev pub withConcepts : Editor → List ℕ → ℕ → Editor
 withConcepts s concepts n = record {
   roles = s .roles;

@@ -6,12 +6,10 @@ use mathlib.Core.List.{List, [], _∷_, _++_, map, flatten}
 use mathlib.Core.Option.{none, some}
 use native.Mathlib.Omega.{arith}
 use native.Mathlib.Nat.{mod-eq-of-lt, mod-lt}
-use lib.Bits.{bitOr}
 use lib.Dec.{ltb}
 use lib.ListN.{length, set, take, drop, replicate, length-set, List·getD-append}
 use Rattle.logic.specs.Tests.{So, and-l, and-r, so-ltb}
 use Rattle.logic.specs.Sets.{with}
-use Rattle.logic.specs.SetLaws.{single-word}
 use Rattle.parts.specs.Numbers.{byteAt, num2, upTo}
 use Rattle.laying.specs.Numbers.{two}
 use Rattle.laying.specs.Laying.{laid}
@@ -23,16 +21,12 @@ use Rattle.editing.specs.Kept.{passed, Few, made-few, entries-roles}
 use Rattle.editing.specs.Answers.{inclusion-answers}
 use Rattle.edit_bytes.specs.Out.{roleBytes, rolesOut, conceptsOut}
 use Rattle.edit_bytes.specs.OutLaws.{roles-long, concepts-long, byte-of, mask-of}
+use Rattle.edit_lay.specs.Lays.{withParent}
 use Rattle.editor.specs.declared.Editor.{Editor}
-use Rattle.editor.specs.Holding.{filled, stateOf, Holds, withRoles, withParent}
+use Rattle.editor.specs.Holding.{filled, stateOf, Holds, withRoles}
 use Rattle.editor.specs.FillLaws.{filled-front, filled-set}
 use Rattle.editor.specs.StateLaws.{counted, roles-state}
 use Rattle.editor.specs.TestLaws.{simples-held, everys-held}
-
--- the mask with one bit, as the code sets it
-pub parent-mask : (x p : ℕ) → bitOr x (1 * 2 ^ (p % 16) % 65536) ≡ with x (p % 16)
-unfolding with
-parent-mask x p = ap (bitOr x) (single-word 16 (p % 16) (omega arith))
 
 -- bytes that are there are read where they are filled up
 byte-filled : (size : ℕ) (x : List ℕ) (i : ℕ) → i < length x → byteAt (filled size x) i ≡ byteAt x i

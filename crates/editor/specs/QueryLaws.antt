@@ -6,6 +6,7 @@ use mathlib.Core.List.{List, [], _∷_, _++_}
 use mathlib.Core.Option.{none, some}
 use native.Mathlib.Omega.{arith}
 use borrow.Author.Tests.{lt-ltb, le-ltb}
+use lib.Dec.{ltb}
 use lib.ListN.{length, set}
 use Rattle.logic.specs.Lists.{length-snoc}
 use Rattle.laying.specs.Laying.{laid-one}
@@ -26,21 +27,18 @@ module _ (s : Editor) (T : Draft) (h : Holds s T) (l : ℕ) where
   ruled : s .rules ≡ length (T .rules)
   ruled = ap (λ s. s .rules) (h .state)
 
-  literal-past : 2 * s .entries ≤ l → literalTest (describes T) (literal l) ≡ false
-  literal-past k = sym (literal-is l (length (T .entries))) ∙ le-ltb l (2 * length (T .entries)) (omega (arith, counted))
-
-  literal-there : l < 2 * s .entries → literalTest (describes T) (literal l) ≡ true
-  literal-there k = sym (literal-is l (length (T .entries))) ∙ lt-ltb l (2 * length (T .entries)) (omega (arith, counted))
+  literal-test : literalTest (describes T) (literal l) ≡ ltb l (2 * s .entries)
+  literal-test = sym (literal-is l (length (T .entries))) ∙ ap (λ n. ltb l (2 * n)) (sym counted)
 
   -- ---- the root
-  pub root-past : 2 * s .entries ≤ l → refusal T (newRoot l) ≡ some 8
-  root-past k = root-answers T (h .made) l ∙ rw (literal-past k) refl
+  pub root-past : ltb l (2 * s .entries) ≡ false → refusal T (newRoot l) ≡ some 8
+  root-past k = root-answers T (h .made) l ∙ rw (literal-test ∙ k) refl
 
-  pub root-put : l < 2 * s .entries → (refusal T (newRoot l) ≡ none)
+  pub root-put : ltb l (2 * s .entries) ≡ true → (refusal T (newRoot l) ≡ none)
       × (withQuery s (set (s .query) 0 l) true (s .rules) ≡ stateOf (putIn T (newRoot l)))
   unfolding filled rolesOut conceptsOut
   root-put k = (
-    root-answers T (h .made) l ∙ rw (literal-there k) refl,
+    root-answers T (h .made) l ∙ rw (literal-test ∙ k) refl,
     ap (λ s. withQuery s (set (s .query) 0 l) true (s .rules)) (h .state),
   )
 
@@ -48,14 +46,14 @@ module _ (s : Editor) (T : Draft) (h : Holds s T) (l : ℕ) where
   pub rule-full : 16 ≤ s .rules → refusal T (newRule l) ≡ some 25
   rule-full k = rule-answers T (h .made) l ∙ rw (le-ltb (length (T .rules)) 16 (omega (arith, ruled))) refl
 
-  pub rule-past : s .rules < 16 → 2 * s .entries ≤ l → refusal T (newRule l) ≡ some 8
-  rule-past k u = rule-answers T (h .made) l ∙ rw (lt-ltb (length (T .rules)) 16 (omega (arith, ruled)), literal-past u) refl
+  pub rule-past : s .rules < 16 → ltb l (2 * s .entries) ≡ false → refusal T (newRule l) ≡ some 8
+  rule-past k u = rule-answers T (h .made) l ∙ rw (lt-ltb (length (T .rules)) 16 (omega (arith, ruled)), literal-test ∙ u) refl
 
-  pub rule-added : s .rules < 16 → l < 2 * s .entries → (refusal T (newRule l) ≡ none)
+  pub rule-added : s .rules < 16 → ltb l (2 * s .entries) ≡ true → (refusal T (newRule l) ≡ none)
       × (withQuery s (set (s .query) (1 + s .rules) l) (s .rooted) (s .rules + 1) ≡ stateOf (putIn T (newRule l)))
   unfolding rolesOut conceptsOut
   rule-added k u = (
-    rule-answers T (h .made) l ∙ rw (lt-ltb (length (T .rules)) 16 (omega (arith, ruled)), literal-there u) refl,
+    rule-answers T (h .made) l ∙ rw (lt-ltb (length (T .rules)) 16 (omega (arith, ruled)), literal-test ∙ u) refl,
     ap (λ s. withQuery s (set (s .query) (1 + s .rules) l) (s .rooted) (s .rules + 1)) (h .state)
         ∙ ap₂ (λ q n. withQuery (stateOf T) q (isSet (T .root)) n) (laid-one (filled 17 qs) (1 + m) l (omega (arith, room, long))
         ∙ filled-on 17 qs (l ∷ []) (1 + m) (omega arith) room) (let z : m + 1 ≡ length (T .rules ++ (l ∷ [])) = omega (arith, length-snoc (T .rules) l) in z),

@@ -1,36 +1,30 @@
 // The editor of a description: a state by value, and operations that give the next one.
 ghost use mathlib.Core.Path.{_≡_};
-ghost use Prim.Native.Nat.{ℕ, _+_, _*_, _%_, _<_, _≤_};
-ghost use mathlib.Core.List.{[], _∷_};
+ghost use Prim.Native.Nat.{ℕ, _*_, _≤_};
 ghost use mathlib.Core.Bool.{_&&_};
 ghost use lib.Dec.{leb, ltb};
 ghost use lib.ListN.{length, drop};
 ghost use denote.Ref.{now};
-ghost use Rattle.logic.specs.Sets.{with};
-ghost use Rattle.laying.specs.Numbers.{two};
-ghost use Rattle.laying.specs.Laying.{laid, laidFrom};
 ghost use Rattle.answers.specs.declared.Change.the-variants.{Done, Refused};
-ghost use Rattle.labels.specs.Labels.{mostEntries};
 ghost use Rattle.tables.specs.Concepts.{fieldsIn};
 ghost use Rattle.editing.specs.Editing.{Draft, nothing, newRole, inclusion, concept, newRoot, newRule};
 ghost use Rattle.answers.specs.declared.Output.the-variants as Outputs;
 ghost use Rattle.answers.specs.declared.Output.the-variants.{Bytes};
 ghost use Rattle.answers.specs.Answers.{ofOutput, sizeOf};
 ghost use Rattle.edit_bytes.specs.Out.{outAnswer, outLength, outBuffer};
-ghost use Rattle.editor.specs.Holding.{Holds, Edits, withRoles, withParent, withConcepts, sixBytes};
-ghost use Rattle.editor.specs.WriteLaws.{pairsOf, sizeHeld, piecesHeld};
+ghost use Rattle.editor.specs.Holding.{Holds, Edits, withRoles, withConcepts};
 use answers::Change;
 use answers::Output;
+use edit_lay::lay_description;
+use edit_lay::lay_entry;
+use edit_lay::lay_parent;
+use edit_lay::lay_role;
 use intake::distinct_ok;
 use intake::everys::every_at;
 use intake::everys::everys_ok;
 use intake::simple_ok;
 use intake::simples_ok;
 use labels::MOST_ENTRIES;
-use laying::copy_bytes;
-use laying::put2;
-use parts::byte;
-use parts::mask2;
 use parts::span;
 use roles::Role;
 use roles::role_table;
@@ -75,17 +69,6 @@ fn done(s: Editor) -> Edited
         answer: Change::Done,
         state: s,
     }
-}
-
-// The bytes of the roles with those of role `i`.
-fn lay_role(roles: [u8; 48], i: u8, transitive: u8, parents: u16) -> [u8; 48]
-    requires { ⌜ i < 16 ⌝ }
-    ensures { λ r. ⌜ r ≡ laid roles (3 * i) (transitive ∷ two parents) ⌝ }
-{
-    let bytes = [transitive, (parents / 256) as u8, (parents % 256) as u8];
-    let mut out = roles;
-    copy_bytes(&mut out, 3 * (i as usize), &bytes);
-    out
 }
 
 // The state with the bytes of `n` roles. Their records are made anew, by what opens a description: there is no other way to make them.
@@ -141,23 +124,6 @@ fn are_roles(r: RoleNo, p: RoleNo, n: u8) -> bool
     (r.0 < n) & (p.0 < n)
 }
 
-// The mask with the bit of `p`.
-fn with_bit(x: u16, p: RoleNo) -> u16
-    ensures { λ q. ⌜ q ≡ with x (p .0 % 16) ⌝ }
-{
-    x | (1 << (p.0 % 16))
-}
-
-// The bytes of the roles with the bit of `p` in the parents of `r`.
-fn with_parent(roles: [u8; 48], r: RoleNo, p: RoleNo) -> [u8; 48]
-    ensures { λ q. ⌜ q ≡ withParent roles (r .0 % 16) (p .0 % 16) ⌝ }
-{
-    let i = r.0 % 16;
-    let at = 3 * (i as usize);
-    let parents = with_bit(mask2(&roles, at + 1), p);
-    lay_role(roles, i, byte(&roles, at), parents)
-}
-
 // Includes role `r` in role `p`. All entries are tested with the new records: a role that is neither may be harmed.
 pub fn add_inclusion(s: Editor, r: RoleNo, p: RoleNo) -> Edited
     ensures made { λ q. ⌜ ((T : Draft) → Holds s T → Edits T (inclusion (r .0) (p .0)) q) ⌝ }
@@ -168,7 +134,7 @@ pub fn add_inclusion(s: Editor, r: RoleNo, p: RoleNo) -> Edited
         return refused(s, 3);
     }
     let roles = s.roles;
-    let more = with_parent(roles, r, p);
+    let more = lay_parent(roles, r, p);
     let next = with_roles(s, more, n);
     let table = next.table;
     let concepts = s.concepts;
@@ -180,19 +146,6 @@ pub fn add_inclusion(s: Editor, r: RoleNo, p: RoleNo) -> Edited
         return refused(s, 7);
     }
     done(next)
-}
-
-// The bytes of the concepts with those of entry `e`.
-fn lay_entry(concepts: [u8; 384], e: u8, f: Fields) -> [u8; 384]
-    requires { ⌜ e < mostEntries ⌝ }
-    ensures { λ r. ⌜ r ≡ laid concepts (6 * e) (sixBytes f) ⌝ }
-{
-    let high = (f.number / 256 % 256) as u8;
-    let low = (f.number % 256) as u8;
-    let bytes = [f.kind, f.role, f.first, f.second, high, low];
-    let mut out = concepts;
-    copy_bytes(&mut out, 6 * (e as usize), &bytes);
-    out
 }
 
 // The state with the bytes of `n` entries.
@@ -233,12 +186,19 @@ pub fn add_concept(s: Editor, f: Fields) -> Edited
     done(with_concepts(s, more, n + 1))
 }
 
+// Whether `literal` is of one of the `entries`.
+fn is_literal(literal: u8, entries: u8) -> bool
+    ensures { λ r. ⌜ r ≡ ltb literal (2 * entries) ⌝ }
+{
+    (literal as usize) < 2 * (entries as usize)
+}
+
 // Sets the root. One that was set before is forgotten.
 pub fn set_root(s: Editor, literal: u8) -> Edited
     ensures made { λ r. ⌜ ((T : Draft) → Holds s T → Edits T (newRoot literal) r) ⌝ }
     ensures kept { λ r. ⌜ ((n m : ℕ) → r .answer ≡ Refused n m → r .state ≡ s) ⌝ }
 {
-    if 2 * (s.entries as usize) <= (literal as usize) {
+    if !is_literal(literal, s.entries) {
         return refused(s, 8);
     }
     let mut next = s;
@@ -256,7 +216,7 @@ pub fn add_rule(s: Editor, literal: u8) -> Edited
     if 16 <= n {
         return refused(s, 25);
     }
-    if 2 * (s.entries as usize) <= (literal as usize) {
+    if !is_literal(literal, s.entries) {
         return refused(s, 8);
     }
     let mut next = s;
@@ -272,49 +232,6 @@ fn is_whole(count: u8, entries: u8, rooted: bool) -> bool
     (1 <= count) & ((1 <= entries) & rooted)
 }
 
-// The three pairs, of parts of `a`, `b` and `c` bytes.
-fn lay_pairs(buf: &mut [u8], a: u16, b: u16, c: u16)
-    requires { ⌜ (12 ≤ length (now buf)) × (12 + a + b < 65536) ⌝ }
-    ensures { λ _. ⌜ now (buf .exit) ≡ laid (now (buf .entry)) 0 (pairsOf a b c) ⌝ }
-{
-    put2(buf, 0, 12);
-    put2(buf, 2, a);
-    put2(buf, 4, 12 + a);
-    put2(buf, 6, b);
-    put2(buf, 8, 12 + a + b);
-    put2(buf, 10, c);
-}
-
-// The three parts, behind the pairs.
-fn lay_parts(buf: &mut [u8], rs: &[u8], cs: &[u8], qs: &[u8])
-    requires { ⌜ 12 + length (now rs) + length (now cs) + length (now qs) ≤ length (now buf) ⌝ }
-    ensures { λ _. ⌜ now (buf .exit) ≡ laidFrom 12 (now (rs .entry) ∷ now (cs .entry) ∷ now (qs .entry) ∷ []) (now (buf .entry)) ⌝ }
-{
-    copy_bytes(buf, 12, rs);
-    copy_bytes(buf, 12 + rs.len(), cs);
-    copy_bytes(buf, 12 + rs.len() + cs.len(), qs);
-}
-
-// All of it: the state's three parts with their pairs.
-fn lay_out(buf: &mut [u8], s: Editor)
-    requires { ⌜ sizeHeld s ≤ length (now buf) ⌝ }
-    ensures { λ _. ⌜ now (buf .exit) ≡ laidFrom 0 (piecesHeld s) (now (buf .entry)) ⌝ }
-{
-    let query = s.query;
-    let qs = span(&query, 0, 1 + (s.rules as usize));
-    let concepts = s.concepts;
-    let cs = span(&concepts, 0, 6 * (s.entries as usize));
-    let roles = s.roles;
-    let rs = span(&roles, 0, 3 * (s.count as usize));
-    lay_pairs(
-        buf,
-        3 * (s.count as u16),
-        6 * (s.entries as u16),
-        1 + (s.rules as u16),
-    );
-    lay_parts(buf, rs, cs, qs);
-}
-
 // Writes the description out: three pairs and the three parts, exactly what was put in.
 pub fn write_out(s: Editor, buf: &mut [u8]) -> Output
     ensures answer { λ r. ⌜ ((T : Draft) → Holds s T → ofOutput r ≡ outAnswer T (length (now (buf .entry)))) ⌝ }
@@ -326,10 +243,16 @@ pub fn write_out(s: Editor, buf: &mut [u8]) -> Output
     if !is_whole(s.count, s.entries, s.rooted) {
         return Output::Refused(2, 0);
     }
-    let n = 13 + 3 * (s.count as usize) + 6 * (s.entries as usize) + (s.rules as usize);
+    let query = s.query;
+    let qs = span(&query, 0, 1 + (s.rules as usize));
+    let concepts = s.concepts;
+    let cs = span(&concepts, 0, 6 * (s.entries as usize));
+    let roles = s.roles;
+    let rs = span(&roles, 0, 3 * (s.count as usize));
+    let n = 12 + rs.len() + cs.len() + qs.len();
     if buf.len() < n {
         return Output::Refused(22, 0);
     }
-    lay_out(buf, s);
+    lay_description(buf, rs, cs, qs);
     Output::Bytes(n)
 }

@@ -9,7 +9,7 @@ use Rattle.editor.proofs.add_concept.Tie as tie
 use Rattle.editor.proofs.add_concept.Reads as reads
 use Rattle.editor.proofs.add_concept.Lts as lts
 use Rattle.editor.proofs.done.Reads as done-reads
-use Rattle.editor.proofs.lay_entry.Reads as lay-entry-reads
+use Rattle.edit_lay.proofs.lay_entry.Reads as lay-entry-reads
 use Rattle.editor.proofs.refused.Reads as refused-reads
 use Rattle.editor.proofs.with_concepts.Reads as with-concepts-reads
 use Rattle.intake.proofs.distinct_ok.Reads as distinct-ok-reads

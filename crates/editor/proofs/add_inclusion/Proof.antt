@@ -7,10 +7,10 @@ use Rattle.editor.proofs.add_inclusion.Statement.{statement}
 use Rattle.editor.proofs.add_inclusion.Tie as tie
 use Rattle.editor.proofs.add_inclusion.Reads as reads
 use Rattle.editor.proofs.add_inclusion.Lts as lts
+use Rattle.edit_lay.proofs.lay_parent.Reads as lay-parent-reads
 use Rattle.editor.proofs.are_roles.Reads as are-roles-reads
 use Rattle.editor.proofs.done.Reads as done-reads
 use Rattle.editor.proofs.refused.Reads as refused-reads
-use Rattle.editor.proofs.with_parent.Reads as with-parent-reads
 use Rattle.editor.proofs.with_roles.Reads as with-roles-reads
 use Rattle.intake.proofs.everys.everys_ok.Reads as everys-ok-reads
 use Rattle.intake.proofs.simples_ok.Reads as simples-ok-reads
@@ -25,8 +25,8 @@ refused-requires c κs = search needs
 returns : tie.Need-returns
 returns c = refused-answers (c .before .before .before .args .s) _ _ 3 (c .refused .ensures) (λ T h. inclusion-past _ T h _ _ (sym (c .before .before .are-roles .ensures) ∙ not-true _ (c .before .if1 .taken)))
 
-with-parent-requires : tie.Need-with-parent-requires
-with-parent-requires c κs = search needs
+lay-parent-requires : tie.Need-lay-parent-requires
+lay-parent-requires c κs = search needs
 
 with-roles-requires : tie.Need-with-roles-requires
 with-roles-requires c κs = search needs
@@ -50,7 +50,7 @@ refused-requires-2 : tie.Need-refused-requires-2
 refused-requires-2 c κs = search needs
 
 returns-2 : tie.Need-returns-2
-returns-2 c = refused-answers (c .before .before .before .before .before .before .before .before .before .before .before .before .before .args .s) _ _ 5 (c .refused2 .ensures) (λ T h. inclusion-5 (c .before .before .before .before .before .before .before .before .before .before .before .before .before .args .s) (c .before .before .before .before .before .before .before .before .with-roles .result) (c .before .before .before .span .result .now) (c .before .before .before .before .before .before .before .before .before .before .before .before .before .args .r .0) (c .before .before .before .before .before .before .before .before .before .before .before .before .before .args .p .0) (rw (c .before .before .before .before .before .before .before .before .with-roles .ensures, c .before .before .before .before .before .before .before .before .before .with-parent .ensures) refl) (c .before .before .before .span .ensures) T h (sym (c .before .before .before .before .before .before .before .before .before .before .before .before .are-roles .ensures) ∙ not-false _ (c .before .before .before .before .before .before .before .before .before .before .before .if1 .left)) (sym (c .before .before .simples-ok .ensures) ∙ not-true _ (c .before .if2 .taken)))
+returns-2 c = refused-answers (c .before .before .before .before .before .before .before .before .before .before .before .before .before .args .s) _ _ 5 (c .refused2 .ensures) (λ T h. inclusion-5 (c .before .before .before .before .before .before .before .before .before .before .before .before .before .args .s) (c .before .before .before .before .before .before .before .before .with-roles .result) (c .before .before .before .span .result .now) (c .before .before .before .before .before .before .before .before .before .before .before .before .before .args .r .0) (c .before .before .before .before .before .before .before .before .before .before .before .before .before .args .p .0) (rw (c .before .before .before .before .before .before .before .before .with-roles .ensures, c .before .before .before .before .before .before .before .before .before .lay-parent .ensures) refl) (c .before .before .before .span .ensures) T h (sym (c .before .before .before .before .before .before .before .before .before .before .before .before .are-roles .ensures) ∙ not-false _ (c .before .before .before .before .before .before .before .before .before .before .before .if1 .left)) (sym (c .before .before .simples-ok .ensures) ∙ not-true _ (c .before .if2 .taken)))
 
 everys-ok-requires : tie.Need-everys-ok-requires
 everys-ok-requires c κs = search needs
@@ -59,13 +59,13 @@ refused-requires-3 : tie.Need-refused-requires-3
 refused-requires-3 c κs = search needs
 
 returns-3 : tie.Need-returns-3
-returns-3 c = refused-answers (c .before .before .before .before .before .before .before .before .before .before .before .before .before .before .before .args .s) _ _ 7 (c .refused3 .ensures) (λ T h. inclusion-7 (c .before .before .before .before .before .before .before .before .before .before .before .before .before .before .before .args .s) (c .before .before .before .before .before .before .before .before .before .before .with-roles .result) (c .before .before .before .before .before .span .result .now) (c .before .before .before .before .before .before .before .before .before .before .before .before .before .before .before .args .r .0) (c .before .before .before .before .before .before .before .before .before .before .before .before .before .before .before .args .p .0) (rw (c .before .before .before .before .before .before .before .before .before .before .with-roles .ensures, c .before .before .before .before .before .before .before .before .before .before .before .with-parent .ensures) refl) (c .before .before .before .before .before .span .ensures) T h (sym (c .before .before .before .before .before .before .before .before .before .before .before .before .before .before .are-roles .ensures) ∙ not-false _ (c .before .before .before .before .before .before .before .before .before .before .before .before .before .if1 .left)) (sym (c .before .before .before .before .simples-ok .ensures) ∙ not-false _ (c .before .before .before .if2 .left)) (sym (c .before .before .everys-ok .ensures) ∙ not-true _ (c .before .if3 .taken)))
+returns-3 c = refused-answers (c .before .before .before .before .before .before .before .before .before .before .before .before .before .before .before .args .s) _ _ 7 (c .refused3 .ensures) (λ T h. inclusion-7 (c .before .before .before .before .before .before .before .before .before .before .before .before .before .before .before .args .s) (c .before .before .before .before .before .before .before .before .before .before .with-roles .result) (c .before .before .before .before .before .span .result .now) (c .before .before .before .before .before .before .before .before .before .before .before .before .before .before .before .args .r .0) (c .before .before .before .before .before .before .before .before .before .before .before .before .before .before .before .args .p .0) (rw (c .before .before .before .before .before .before .before .before .before .before .with-roles .ensures, c .before .before .before .before .before .before .before .before .before .before .before .lay-parent .ensures) refl) (c .before .before .before .before .before .span .ensures) T h (sym (c .before .before .before .before .before .before .before .before .before .before .before .before .before .before .are-roles .ensures) ∙ not-false _ (c .before .before .before .before .before .before .before .before .before .before .before .before .before .if1 .left)) (sym (c .before .before .before .before .simples-ok .ensures) ∙ not-false _ (c .before .before .before .if2 .left)) (sym (c .before .before .everys-ok .ensures) ∙ not-true _ (c .before .if3 .taken)))
 
 done-requires : tie.Need-done-requires
 done-requires c κs = search needs
 
 returns-4 : tie.Need-returns-4
-returns-4 c = done-answers (c .before .before .before .before .before .before .before .before .before .before .before .before .before .before .before .args .s) _ _ _ (c .done .ensures) (λ T h. inclusion-done (c .before .before .before .before .before .before .before .before .before .before .before .before .before .before .before .args .s) (c .before .before .before .before .before .before .before .before .before .before .with-roles .result) (c .before .before .before .before .before .span .result .now) (c .before .before .before .before .before .before .before .before .before .before .before .before .before .before .before .args .r .0) (c .before .before .before .before .before .before .before .before .before .before .before .before .before .before .before .args .p .0) (rw (c .before .before .before .before .before .before .before .before .before .before .with-roles .ensures, c .before .before .before .before .before .before .before .before .before .before .before .with-parent .ensures) refl) (c .before .before .before .before .before .span .ensures) T h (sym (c .before .before .before .before .before .before .before .before .before .before .before .before .before .before .are-roles .ensures) ∙ not-false _ (c .before .before .before .before .before .before .before .before .before .before .before .before .before .if1 .left)) (sym (c .before .before .before .before .simples-ok .ensures) ∙ not-false _ (c .before .before .before .if2 .left)) (sym (c .before .before .everys-ok .ensures) ∙ not-false _ (c .before .if3 .left)))
+returns-4 c = done-answers (c .before .before .before .before .before .before .before .before .before .before .before .before .before .before .before .args .s) _ _ _ (c .done .ensures) (λ T h. inclusion-done (c .before .before .before .before .before .before .before .before .before .before .before .before .before .before .before .args .s) (c .before .before .before .before .before .before .before .before .before .before .with-roles .result) (c .before .before .before .before .before .span .result .now) (c .before .before .before .before .before .before .before .before .before .before .before .before .before .before .before .args .r .0) (c .before .before .before .before .before .before .before .before .before .before .before .before .before .before .before .args .p .0) (rw (c .before .before .before .before .before .before .before .before .before .before .with-roles .ensures, c .before .before .before .before .before .before .before .before .before .before .before .lay-parent .ensures) refl) (c .before .before .before .before .before .span .ensures) T h (sym (c .before .before .before .before .before .before .before .before .before .before .before .before .before .before .are-roles .ensures) ∙ not-false _ (c .before .before .before .before .before .before .before .before .before .before .before .before .before .if1 .left)) (sym (c .before .before .before .before .simples-ok .ensures) ∙ not-false _ (c .before .before .before .if2 .left)) (sym (c .before .before .everys-ok .ensures) ∙ not-false _ (c .before .if3 .left)))
 
 pub add-inclusion-spec : {M : Type 1} → statement M
 add-inclusion-spec =
@@ -74,7 +74,7 @@ add-inclusion-spec =
     are-roles-requires
     refused-requires
     returns
-    with-parent-requires
+    lay-parent-requires
     with-roles-requires
     slice-aggregate-span
     cast-span

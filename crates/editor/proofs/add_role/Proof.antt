@@ -6,7 +6,7 @@ use Rattle.editor.proofs.add_role.Tie as tie
 use Rattle.editor.proofs.add_role.Reads as reads
 use Rattle.editor.proofs.add_role.Lts as lts
 use Rattle.editor.proofs.done.Reads as done-reads
-use Rattle.editor.proofs.lay_role.Reads as lay-role-reads
+use Rattle.edit_lay.proofs.lay_role.Reads as lay-role-reads
 use Rattle.editor.proofs.refused.Reads as refused-reads
 use Rattle.editor.proofs.with_roles.Reads as with-roles-reads
 

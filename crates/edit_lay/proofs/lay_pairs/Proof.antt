@@ -1,10 +1,10 @@
-use Rattle.editor.specs.WriteLaws.{pairs-laid}
+use Rattle.edit_lay.specs.LayLaws.{pairs-laid}
 use native.Mathlib.Omega.{arith}
 use borrow.Author.Needs.{needs}
-use Rattle.editor.proofs.lay_pairs.Statement.{statement}
-use Rattle.editor.proofs.lay_pairs.Tie as tie
-use Rattle.editor.proofs.lay_pairs.Reads as reads
-use Rattle.editor.proofs.lay_pairs.Lts as lts
+use Rattle.edit_lay.proofs.lay_pairs.Statement.{statement}
+use Rattle.edit_lay.proofs.lay_pairs.Tie as tie
+use Rattle.edit_lay.proofs.lay_pairs.Reads as reads
+use Rattle.edit_lay.proofs.lay_pairs.Lts as lts
 use Rattle.laying.proofs.put2.Reads as put2-reads
 
 put2-requires : tie.Need-put2-requires

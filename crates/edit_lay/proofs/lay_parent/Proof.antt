@@ -1,11 +1,11 @@
 use mathlib.Core.Path.{refl}
 use borrow.Author.Needs.{needs}
-use Rattle.editor.proofs.with_parent.Statement.{statement}
-use Rattle.editor.proofs.with_parent.Tie as tie
-use Rattle.editor.proofs.with_parent.Reads as reads
-use Rattle.editor.proofs.with_parent.Lts as lts
-use Rattle.editor.proofs.lay_role.Reads as lay-role-reads
-use Rattle.editor.proofs.with_bit.Reads as with-bit-reads
+use Rattle.edit_lay.proofs.lay_parent.Statement.{statement}
+use Rattle.edit_lay.proofs.lay_parent.Tie as tie
+use Rattle.edit_lay.proofs.lay_parent.Reads as reads
+use Rattle.edit_lay.proofs.lay_parent.Lts as lts
+use Rattle.edit_lay.proofs.lay_role.Reads as lay-role-reads
+use Rattle.edit_lay.proofs.with_bit.Reads as with-bit-reads
 use Rattle.parts.proofs.byte.Reads as byte-reads
 use Rattle.parts.proofs.mask2.Reads as mask2-reads
 
@@ -39,8 +39,8 @@ lay-role-requires c κs = search needs
 returns : tie.Need-returns
 returns c = rw (c .lay-role .ensures, c .before .byte .ensures, c .before .before .before .with-bit .ensures, c .before .before .before .before .mask2 .ensures) refl
 
-pub with-parent-spec : {M : Type 1} → statement M
-with-parent-spec =
+pub lay-parent-spec : {M : Type 1} → statement M
+lay-parent-spec =
     tie.close
     (tie.spec
     cast-at

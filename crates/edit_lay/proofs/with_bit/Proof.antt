@@ -1,9 +1,9 @@
-use Rattle.editor.specs.InclusionLaws.{parent-mask}
+use Rattle.edit_lay.specs.LayLaws.{parent-mask}
 use borrow.Author.Needs.{needs}
-use Rattle.editor.proofs.with_bit.Statement.{statement}
-use Rattle.editor.proofs.with_bit.Tie as tie
-use Rattle.editor.proofs.with_bit.Reads as reads
-use Rattle.editor.proofs.with_bit.Lts as lts
+use Rattle.edit_lay.proofs.with_bit.Statement.{statement}
+use Rattle.edit_lay.proofs.with_bit.Tie as tie
+use Rattle.edit_lay.proofs.with_bit.Reads as reads
+use Rattle.edit_lay.proofs.with_bit.Lts as lts
 
 cast-result : tie.Need-cast-result
 cast-result c = search needs
