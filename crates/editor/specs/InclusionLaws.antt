@@ -47,7 +47,8 @@ module _ (T : Draft) (r p : ℕ) where
   unfolding rolesOut
   parent-laid h = ap₂ (λ t m. laid (filled 48 (rolesOut T)) (3 * r) (t ∷ two (with m p)))
       (byte-filled 48 (rolesOut T) (3 * r) (omega (arith, roles-long T)) ∙ byte-of T r)
-      (ap₂ (λ (a b : ℕ). a * 256 + b) (byte-filled 48 (rolesOut T) (3 * r + 1) (omega (arith, roles-long T))) (byte-filled 48 (rolesOut T) (3 * r + 1 + 1) (omega (arith, roles-long T))) ∙ mask-of T r)
+      (ap₂ (λ (a b : ℕ). a * 256 + b) (byte-filled 48 (rolesOut T) (3 * r + 1) (omega (arith, roles-long T)))
+      (byte-filled 48 (rolesOut T) (3 * r + 1 + 1) (omega (arith, roles-long T))) ∙ mask-of T r)
       ∙ filled-set 3 roleBytes (λ R. refl) 48 (T .roles) r changed h (omega (arith, roles-long U, roles-long T, as-many))
 
 -- the code's next state, and the slice of the entries
@@ -67,7 +68,8 @@ module _ (s next : Editor) (cs : List ℕ) (r p : ℕ) (q : next ≡ withRoles s
     hp = so-ltb p _ (and-r (ltb r (length (T .roles))) _ (same-test ∙ i))
 
     next-is : next ≡ stateOf (putIn T (inclusion r p))
-    next-is = let m = made-few T (h .made) in let a : r % 16 ≡ r = mod-eq-of-lt (omega (arith, hr)) in let b : p % 16 ≡ p = mod-eq-of-lt (omega (arith, hp)) in
+    next-is = let m = made-few T (h .made) in
+        let a : r % 16 ≡ r = mod-eq-of-lt (omega (arith, hr)) in let b : p % 16 ≡ p = mod-eq-of-lt (omega (arith, hp)) in
         q ∙ ap (λ s. withRoles s (withParent (s .roles) (r % 16) (p % 16)) (s .count)) (h .state)
         ∙ roles-state T _ _ _ (sym (as-many T r p)) (ap₂ (withParent (filled 48 (rolesOut T))) a b ∙ parent-laid T r p hr)
 
@@ -79,14 +81,16 @@ module _ (s next : Editor) (cs : List ℕ) (r p : ℕ) (q : next ≡ withRoles s
 
     cs-is : cs ≡ conceptsOut (putIn T (inclusion r p))
     unfolding conceptsOut
-    cs-is = k ∙ ap (λ s. take (6 * s .entries) (drop 0 (s .concepts))) (h .state) ∙ filled-front 384 (conceptsOut T) _ (sym (concepts-long T))
+    cs-is = k ∙ ap (λ s. take (6 * s .entries) (drop 0 (s .concepts))) (h .state)
+        ∙ filled-front 384 (conceptsOut T) _ (sym (concepts-long T))
 
     simples-is : simplesCode cs (next .table) ≡ simplesTest (describes (putIn T (inclusion r p)))
     simples-is = ap₂ simplesCode cs-is (ap (λ s. s .table) next-is) ∙ simples-held (putIn T (inclusion r p)) few ok
 
     everys-is : everysCode cs (next .table) (upTo 16 (s .count)) ≡ everysTest (describes (putIn T (inclusion r p)))
     everys-is = ap₂ (λ cs t. everysCode cs t (upTo 16 (s .count))) cs-is (ap (λ s. s .table) next-is)
-        ∙ ap (λ n. everysCode (conceptsOut (putIn T (inclusion r p))) (roleTable (rolesOut (putIn T (inclusion r p)))) (upTo 16 n)) (counted s T h ∙ sym (as-many T r p)) ∙ everys-held (putIn T (inclusion r p)) few ok
+        ∙ ap (λ n. everysCode (conceptsOut (putIn T (inclusion r p))) (roleTable (rolesOut (putIn T (inclusion r p)))) (upTo 16 n))
+        (counted s T h ∙ sym (as-many T r p)) ∙ everys-held (putIn T (inclusion r p)) few ok
 
     pub inclusion-5 : simplesCode cs (next .table) ≡ false → refusal T (inclusion r p) ≡ some 5
     inclusion-5 e = inclusion-answers T (h .made) r p ∙ rw (same-test ∙ i, sym simples-is ∙ e) refl

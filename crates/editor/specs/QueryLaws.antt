@@ -56,7 +56,8 @@ module _ (s : Editor) (T : Draft) (h : Holds s T) (l : ℕ) where
     rule-answers T (h .made) l ∙ rw (lt-ltb (length (T .rules)) 16 (omega (arith, ruled)), literal-test ∙ u) refl,
     ap (λ s. withQuery s (set (s .query) (1 + s .rules) l) (s .rooted) (s .rules + 1)) (h .state)
         ∙ ap₂ (λ q n. withQuery (stateOf T) q (isSet (T .root)) n) (laid-one (filled 17 qs) (1 + m) l (omega (arith, room, long))
-        ∙ filled-on 17 qs (l ∷ []) (1 + m) (omega arith) room) (let z : m + 1 ≡ length (T .rules ++ (l ∷ [])) = omega (arith, length-snoc (T .rules) l) in z),
+        ∙ filled-on 17 qs (l ∷ []) (1 + m) (omega arith) room)
+        (let z : m + 1 ≡ length (T .rules ++ (l ∷ [])) = omega (arith, length-snoc (T .rules) l) in z),
   )
     where
       qs : List ℕ

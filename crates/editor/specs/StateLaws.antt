@@ -1,4 +1,4 @@
--- What each operation leaves: a refusal gives back the state as it came; what is done leaves the state that holds the draft with it put in.
+-- What an operation leaves: a refusal gives back the state as it came; what is done leaves the state of the draft with it put in.
 use Prim.Native.Nat.{ℕ, suc, _+_, _-_, _*_, _/_, _≤_, _<_}
 use mathlib.Core.Path.{_≡_, refl, sym, _∙_, ap, ap₂, subst}
 use mathlib.Core.Bool.{Bool, true, false}
@@ -76,7 +76,8 @@ pub roles-state : (T : Draft) (R : List RoleIn) (bytes : List ℕ) (n : ℕ) →
     → bytes ≡ filled 48 (rolesOut (record { roles = R; entries = T .entries; root = T .root; rules = T .rules }))
     → withRoles (stateOf T) bytes n ≡ stateOf (record { roles = R; entries = T .entries; root = T .root; rules = T .rules })
 unfolding conceptsOut
-roles-state T R bytes n e q = rw (q, e) (ap (λ rs. withTable (roleTable rs)) (filled-front 48 (rolesOut U) (3 * length R) (sym (roles-long U))))
+roles-state T R bytes n e q = rw (q, e)
+    (ap (λ rs. withTable (roleTable rs)) (filled-front 48 (rolesOut U) (3 * length R) (sym (roles-long U))))
   where
     U : Draft
     U = record { roles = R; entries = T .entries; root = T .root; rules = T .rules }
@@ -150,7 +151,8 @@ module _ (s : Editor) (T : Draft) (h : Holds s T) where
     role-added k u = (
       role-answers T (h .made) b ∙ rw (lt-ltb (length (T .roles)) 16 (omega (arith, counted)), le-leb b 1 u) refl,
       ap (λ s. withRoles s (laid (s .roles) (3 * s .count) (b ∷ two 0)) (s .count + 1)) (h .state)
-          ∙ roles-state T _ _ _ (let z : length (T .roles) + 1 ≡ length (T .roles ++ (new ∷ [])) = omega (arith, length-snoc (T .roles) new) in z)
+          ∙ roles-state T _ _ _
+          (let z : length (T .roles) + 1 ≡ length (T .roles ++ (new ∷ [])) = omega (arith, length-snoc (T .roles) new) in z)
           (new-role T b (omega (arith, counted))),
     )
       where
