@@ -1,8 +1,8 @@
 -- A concept, put into the state: its six bytes behind the others, and 4 to 7 of the one new entry.
-use Prim.Native.Nat.{ℕ, suc, _+_, _*_, _/_, _%_, _≤_, _<_}
-use mathlib.Core.Path.{_≡_, refl, sym, _∙_, ap, ap₂, subst}
+use Prim.Native.Nat.{ℕ, suc, _+_, _*_, _%_, _≤_, _<_}
+use mathlib.Core.Path.{_≡_, refl, sym, _∙_, ap, ap₂}
 use mathlib.Core.Bool.{Bool, true, false, not, _&&_}
-use mathlib.Core.List.{List, [], _∷_, _++_, map, flatten}
+use mathlib.Core.List.{List, [], _∷_}
 use mathlib.Core.Option.{none, some}
 use native.Mathlib.Omega.{arith}
 use native.Mathlib.Nat.{mod-eq-of-lt}
@@ -21,7 +21,6 @@ use Rattle.tables.specs.Tables.{fieldsTest, fields↔}
 use Rattle.tables.specs.Concepts.{fieldsIn}
 use Rattle.tables.specs.declared.Fields as Code
 use Rattle.roles.specs.Records.{roleTable}
-use Rattle.roles.specs.declared.Role.{Role}
 use Rattle.intake.specs.Everys.{everyAt}
 use Rattle.intake.specs.Steps.{simpleAt, twinAt, fields-are}
 use Rattle.editing.specs.Editing.{Draft, describes, entryForm, concept, putIn, refusal}
@@ -32,7 +31,8 @@ use Rattle.edit_bytes.specs.Out.{entryBytes, rolesOut, conceptsOut}
 use Rattle.edit_bytes.specs.OutLaws.{concepts-long}
 use Rattle.edit_lay.specs.Lays.{sixBytes}
 use Rattle.editor.specs.declared.Editor.{Editor}
-use Rattle.editor.specs.Holding.{filled, stateOf, Holds, withConcepts}
+use Rattle.editor.specs.Holding.{filled, stateOf, Holds}
+use Rattle.editor.specs.NextStates.{withConcepts}
 use Rattle.editor.specs.FillLaws.{filled-on, filled-front, bytes-snoc}
 use Rattle.editor.specs.StateLaws.{counted}
 use Rattle.editor.specs.TestLaws.{simple-held, distinct-held, every-held}

@@ -1,16 +1,16 @@
 -- An inclusion, put into the state: its one bit among the bytes, the records made anew, and 5 and 7 of the draft with it.
-use Prim.Native.Nat.{ℕ, suc, _+_, _-_, _*_, _/_, _%_, _^_, _≤_, _<_}
-use mathlib.Core.Path.{_≡_, refl, sym, _∙_, ap, ap₂, subst}
+use Prim.Native.Nat.{ℕ, _+_, _-_, _*_, _%_, _<_}
+use mathlib.Core.Path.{_≡_, refl, sym, _∙_, ap, ap₂}
 use mathlib.Core.Bool.{Bool, true, false, _&&_}
-use mathlib.Core.List.{List, [], _∷_, _++_, map, flatten}
+use mathlib.Core.List.{List, _∷_}
 use mathlib.Core.Option.{none, some}
 use native.Mathlib.Omega.{arith}
-use native.Mathlib.Nat.{mod-eq-of-lt, mod-lt}
+use native.Mathlib.Nat.{mod-eq-of-lt}
 use lib.Dec.{ltb}
-use lib.ListN.{length, set, take, drop, replicate, length-set, List·getD-append}
+use lib.ListN.{length, take, drop, replicate, length-set, List·getD-append}
 use Rattle.logic.specs.Tests.{So, and-l, and-r, so-ltb}
 use Rattle.logic.specs.Sets.{with}
-use Rattle.parts.specs.Numbers.{byteAt, num2, upTo}
+use Rattle.parts.specs.Numbers.{byteAt, upTo}
 use Rattle.laying.specs.Numbers.{two}
 use Rattle.laying.specs.Laying.{laid}
 use Rattle.description.specs.Acceptance.{entriesTest, simplesTest, everysTest}
@@ -23,7 +23,8 @@ use Rattle.edit_bytes.specs.Out.{roleBytes, rolesOut, conceptsOut}
 use Rattle.edit_bytes.specs.OutLaws.{roles-long, concepts-long, byte-of, mask-of}
 use Rattle.edit_lay.specs.Lays.{withParent}
 use Rattle.editor.specs.declared.Editor.{Editor}
-use Rattle.editor.specs.Holding.{filled, stateOf, Holds, withRoles}
+use Rattle.editor.specs.Holding.{filled, stateOf, Holds}
+use Rattle.editor.specs.NextStates.{withRoles}
 use Rattle.editor.specs.FillLaws.{filled-front, filled-set}
 use Rattle.editor.specs.StateLaws.{counted, roles-state}
 use Rattle.editor.specs.TestLaws.{simples-held, everys-held}

@@ -1,13 +1,12 @@
 -- What an operation leaves: a refusal gives back the state as it came; what is done leaves the state of the draft with it put in.
-use Prim.Native.Nat.{ℕ, suc, _+_, _-_, _*_, _/_, _≤_, _<_}
-use mathlib.Core.Path.{_≡_, refl, sym, _∙_, ap, ap₂, subst}
+use Prim.Native.Nat.{ℕ, _+_, _*_, _/_, _≤_, _<_}
+use mathlib.Core.Path.{_≡_, refl, sym, _∙_, ap, subst}
 use mathlib.Core.Bool.{Bool, true, false}
 use mathlib.Core.List.{List, [], _∷_, _++_, flatten}
-use mathlib.Core.Option.{Option, none, some}
+use mathlib.Core.Option.{none, some}
 use native.Mathlib.Omega.{arith}
 use borrow.Author.Tests.{lt-ltb, le-ltb, lt-leb, le-leb}
-use lib.ListN.{length, take, drop, replicate}
-use Rattle.logic.specs.Tests.{So}
+use lib.ListN.{length, replicate}
 use Rattle.logic.specs.Lists.{length-snoc}
 use Rattle.description.specs.Roles.{simple}
 use Rattle.laying.specs.Numbers.{two}
@@ -17,14 +16,15 @@ use Rattle.roles.specs.Ancestors.{ancestorMask}
 use Rattle.roles.specs.Records.{roleAt, roleTable, table-bytes, table-parents, table-masks, table-simple}
 use Rattle.answers.specs.declared.Change.the-variants.{Done, Refused}
 use Rattle.answers.specs.Answers.{wholly, answer, DONE, ofChange, unlessRefused}
-use Rattle.editing.specs.Editing.{RoleIn, Draft, roleIn, describes, nothing, Edit, newRole, putIn, refusal, edited, Made, start, next}
+use Rattle.editing.specs.Editing.{RoleIn, Draft, roleIn, describes, nothing, Edit, newRole, putIn, refusal, start, next}
 use Rattle.editing.specs.Kept.{made-few}
 use Rattle.editing.specs.Answers.{role-answers}
 use Rattle.edit_bytes.specs.Out.{roleBytes, rolesOut, conceptsOut, queryOut}
 use Rattle.edit_bytes.specs.OutLaws.{roles-long, byte-of, mask-of, is-described}
 use Rattle.editor.specs.declared.Editor.{Editor}
 use Rattle.editor.specs.declared.Edited as Told
-use Rattle.editor.specs.Holding.{filled, stateOf, Holds, Edits, withRoles}
+use Rattle.editor.specs.Holding.{filled, stateOf, Holds, Edits}
+use Rattle.editor.specs.NextStates.{withRoles}
 use Rattle.editor.specs.FillLaws.{filled-on, filled-front, bytes-snoc}
 
 -- ---- the answers

@@ -1,8 +1,8 @@
 -- The checker's tests of entries, on the bytes and records that the state holds, are the theory's tests of the draft: of every draft
 -- within the limits whose entries keep 4.
-use Prim.Native.Nat.{ℕ, suc, _+_, _*_, _/_, _≤_, _<_}
-use mathlib.Core.Path.{_≡_, refl, sym, _∙_, ap, ap₂}
-use mathlib.Core.Bool.{Bool, not, _&&_}
+use Prim.Native.Nat.{ℕ, _/_, _≤_, _<_}
+use mathlib.Core.Path.{_≡_, refl, sym, _∙_, ap}
+use mathlib.Core.Bool.{not, _&&_}
 use mathlib.Core.List.{List}
 use native.Mathlib.Omega.{arith}
 use lib.ListN.{length}
@@ -10,7 +10,7 @@ use Rattle.logic.specs.Tests.{So}
 use Rattle.logic.specs.Bounded.{allBelow, all-elim}
 use Rattle.parts.specs.Numbers.{upTo, up-to-all}
 use Rattle.labels.specs.Labels.{mostEntries}
-use Rattle.description.specs.Descriptions.{Description, fieldsOf, entryOfFields, sameFields}
+use Rattle.description.specs.Descriptions.{fieldsOf, entryOfFields, sameFields}
 use Rattle.description.specs.Acceptance.{entriesTest, entryTest, simplesTest, simpleTest, distinctTest, everysTest, everyBelowTest}
 use Rattle.tables.specs.Tables.{fieldsAt, fieldsTest, describe}
 use Rattle.roles.specs.Ancestors.{roleCount}

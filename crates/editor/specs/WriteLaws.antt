@@ -1,24 +1,24 @@
 -- Writing out: what the code lays into the buffer, for every state; and of a state that holds a draft, that it is what was put in.
-use Prim.Native.Nat.{ℕ, suc, _+_, _-_, _*_, _≤_, _<_}
+use Prim.Native.Nat.{ℕ, _+_, _*_, _≤_, _<_}
 use mathlib.Core.Path.{_≡_, refl, sym, _∙_, ap, ap₂}
 use mathlib.Core.Bool.{Bool, true, false, _&&_}
-use mathlib.Core.List.{List, [], _∷_, _++_, flatten, append-nil}
+use mathlib.Core.List.{List, _++_}
 use mathlib.Core.Option.{none, some}
 use native.Mathlib.Omega.{arith}
 use borrow.Author.Tests.{lt-leb, le-leb}
 use lib.Dec.{leb}
-use lib.ListN.{length, take, drop, length-append, length-take}
+use lib.ListN.{length, take, drop, length-take}
 use lib.Seq.{drop-at}
 use Rattle.answers.specs.declared.Output.{Output}
 use Rattle.answers.specs.declared.Output.the-variants.{Bytes, Refused}
 use Rattle.answers.specs.Answers.{wholly, answer, WRITTEN, ofOutput, sizeOf, unlessRefused, buffered}
-use Rattle.editing.specs.Editing.{Draft, isSet}
+use Rattle.editing.specs.Editing.{Draft}
 use Rattle.edit_bytes.specs.Out.{rolesOut, conceptsOut, queryOut, withPairs, outBytes, whole, outRefused, outAnswer, outLength, outBuffer}
-use Rattle.edit_bytes.specs.OutLaws.{roles-long, concepts-long, out-length}
+use Rattle.edit_bytes.specs.OutLaws.{roles-long, concepts-long}
 use Rattle.edit_lay.specs.Lays.{sizeWith, writtenOver}
 use Rattle.edit_lay.specs.LayLaws.{with-pairs-long}
 use Rattle.editor.specs.declared.Editor.{Editor}
-use Rattle.editor.specs.Holding.{filled, stateOf, Holds}
+use Rattle.editor.specs.Holding.{Holds}
 use Rattle.editor.specs.FillLaws.{filled-front}
 
 pub span-short : (n : ℕ) (s r : List ℕ) → r ≡ take n (drop 0 s) → length r ≤ n
