@@ -162,19 +162,19 @@ module _ (T : Draft) where
   no-role : (r : ℕ) → length (T .roles) ≤ r → none-role ≡ roleIn T r
   no-role r h = sym (List·getD-eq-default (T .roles) none-role h)
 
-  byte-of : (r : ℕ) → byteAt rs (3 * r) ≡ roleIn T r .transitive
+  pub byte-of : (r : ℕ) → byteAt rs (3 * r) ≡ roleIn T r .transitive
   byte-of r = elim (decLt r (length (T .roles))) [
     | yes h ↦ byte _ _ (role-there r h)
     | no h ↦ past rs (3 * r) (omega (arith, roles-long)) ∙ ap (λ R. R .transitive) (no-role r (omega arith))
   ]
 
-  mask-of : (r : ℕ) → num2 rs (3 * r + 1) ≡ roleIn T r .parents
+  pub mask-of : (r : ℕ) → num2 rs (3 * r + 1) ≡ roleIn T r .parents
   mask-of r = elim (decLt r (length (T .roles))) [
     | yes h ↦ two-bytes .back (roleIn T r .parents) (second (roleIn T r .transitive ∷ []) (two (roleIn T r .parents)) (role-there r h))
     | no h ↦ past-two rs (3 * r + 1) (omega (arith, roles-long)) ∙ ap (λ R. R .parents) (no-role r (omega arith))
   ]
 
-  fields-of : (e : ℕ) → fieldsAt cs e ≡ fieldsIn T e
+  pub fields-of : (e : ℕ) → fieldsAt cs e ≡ fieldsIn T e
   fields-of e = elim (decLt e (length (T .entries))) [
     | yes h ↦ (let k = entry-there e h in let F = fieldsIn T e in
         same (byte _ _ k) (byte _ _ (second (F .kind ∷ []) _ k)) (byte _ _ (second (F .kind ∷ F .role ∷ []) _ k))
@@ -191,7 +191,7 @@ module _ (T : Draft) where
           (record { kind = k′; role = r′; first = a′; second = b′; number = n′ })
       same p q s t u = rw (p, q, s, t, u) refl
 
-  is-described : describe rs cs qs ≡ describes T
+  pub is-described : describe rs cs qs ≡ describes T
   is-described = same (omega (arith, roles-long)) (fun-ext (λ r. ap (λ b. eqb b 1) (byte-of r))) (fun-ext mask-of)
       (omega (arith, concepts-long))
       (fun-ext (λ e. ap entryOfFields (fields-of e))) (omega arith) (fun-ext (λ i. ap (λ j. literal (byteAt qs j)) (add-one i)))

@@ -67,7 +67,7 @@ module _ (T : Draft) (P : Passes T) where
     pub new-entry : grown .entry n ≡ X
     new-entry = ap entryOfFields (at-snoc-new (T .entries) F (fieldsOf top))
 
-    simple-same : (x : Entry) → simpleTest grown x ≡ simpleTest D x
+    pub simple-same : (x : Entry) → simpleTest grown x ≡ simpleTest D x
     unfolding simple ancestor ifLeast
     simple-same x = refl
 
@@ -75,7 +75,7 @@ module _ (T : Draft) (P : Passes T) where
     abbrev four : Bool
     four = sameFields F (fieldsOf X) && entryTest D n X
 
-    entries-last : entriesTest (entryForm W) grown ≡ four
+    pub entries-last : entriesTest (entryForm W) grown ≡ four
     entries-last = all-last n _ (λ e h. rw (at-snoc-old (T .entries) F (fieldsOf top) e h, entry-roles grown D e (D .entry e) refl)
         (all-elim n _ (P .entries) e h))
         ∙ rw (at-snoc-new (T .entries) F (fieldsOf top), entry-roles grown D n X refl) refl
@@ -84,11 +84,14 @@ module _ (T : Draft) (P : Passes T) where
     simples-last = all-last n _ (λ e h. rw (old-entry e h) (simple-same (D .entry e) ∙ all-elim n _ (P .simples) e h))
         ∙ rw new-entry (simple-same X)
 
+    pub distinct-same : distinctTest grown n X ≡ distinctTest D n X
+    distinct-same = all-cong n _ _ (λ e he. ap (λ y. compound y ⇒ not (sameEntry y X)) (old-entry e he))
+
     distincts-last : distinctsTest grown ≡ distinctTest D n X
     distincts-last = all-last n _ (λ f hf. rw (old-entry f hf)
         (all-cong f _ _ (λ e he. ap (λ y. compound y ⇒ not (sameEntry y (D .entry f))) (old-entry e (omega arith)))
         ∙ all-elim n _ (P .distincts) f hf))
-        ∙ rw new-entry (all-cong n _ _ (λ e he. ap (λ y. compound y ⇒ not (sameEntry y X)) (old-entry e he)))
+        ∙ rw new-entry distinct-same
 
     more-everys : (x : Entry) → So (everyBelowTest D x) → So (everyBelowTest grown x)
     unfolding ifEvery ancestor

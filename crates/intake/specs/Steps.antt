@@ -16,7 +16,7 @@ use Rattle.logic.specs.Refusals.{unless, unless-then}
 use Rattle.parts.specs.Numbers.{byteAt, num2, upTo, up-to-all}
 use Rattle.description.specs.Literals.{Literal, literal, code, entryOf, code-literal, code-entry}
 use Rattle.description.specs.Descriptions.{Entry, top, name, both, every, atLeast, Description, Fields, fieldsOf, entryOfFields, entry-back, sameFields, sameFields↔, sameEntry, compound, ifEvery, ifLeast}
-use Rattle.description.specs.Acceptance.{entryTest, simpleTest, everyBelowTest, literalTest, entriesTest, simplesTest, distinctsTest, everysTest, queryTest, descriptionTests, entry↔, EntryOk}
+use Rattle.description.specs.Acceptance.{entryTest, simpleTest, distinctTest, everyBelowTest, literalTest, entriesTest, simplesTest, distinctsTest, everysTest, queryTest, descriptionTests, entry↔, EntryOk}
 use Rattle.labels.specs.Labels.{mostEntries}
 use Rattle.tables.specs.Concepts.{fieldsStruct, conceptOf, conceptAt}
 use Rattle.tables.specs.declared.Concept.{Concept}
@@ -69,17 +69,14 @@ stepsTest rs cs qs t = unless (sizesTest rs cs qs) 2 (unless (rolesCode rs) 3 (u
 
 -- ---- each is the test of the description
 -- 4: the fields test is "of the form of an entry, and that entry keeps its rule"
-entries-are : (rs cs qs : List ℕ) (e : ℕ) → fieldsTest (length rs / 3) e (fieldsAt cs e) ≡ (entryForm cs e && entryTest (describe rs cs qs) e (entryOfFields (fieldsAt cs e)))
-entries-are rs cs qs e = same-test _ _
+pub fields-are : (D : Description) (e : ℕ) (F : Fields) → fieldsTest (D .roles) e F ≡ (sameFields F (fieldsOf (entryOfFields F)) && entryTest D e (entryOfFields F))
+fields-are D e F = same-test _ _
     (λ h. let w = fields↔ D e F .0 h in let x = ap entryOfFields (w .1) ∙ entry-back (w .0) in
     so-and _ _ (sameFields↔ F _ .1 (w .1 ∙ ap fieldsOf (sym x))) (entry↔ D e (entryOfFields F) .1 (subst (EntryOk D e) (sym x) (w .2))))
-    (λ h. fields↔ D e F .1 (entryOfFields F, sameFields↔ F _ .0 (and-l _ _ h), entry↔ D e (entryOfFields F) .0 (and-r (entryForm cs e) _ h)))
-  where
-    D : Description
-    D = describe rs cs qs
+    (λ h. fields↔ D e F .1 (entryOfFields F, sameFields↔ F _ .0 (and-l _ _ h), entry↔ D e (entryOfFields F) .0 (and-r (sameFields F (fieldsOf (entryOfFields F))) _ h)))
 
-    F : Fields
-    F = fieldsAt cs e
+pub entries-are : (rs cs qs : List ℕ) (e : ℕ) → fieldsTest (length rs / 3) e (fieldsAt cs e) ≡ (entryForm cs e && entryTest (describe rs cs qs) e (entryOfFields (fieldsAt cs e)))
+entries-are rs cs qs e = fields-are (describe rs cs qs) e (fieldsAt cs e)
 
 compound-kind : (x : Entry) → compound x ≡ leb 2 (fieldsOf x .kind)
 compound-kind top = refl
@@ -126,8 +123,27 @@ module _ (rs cs qs : List ℕ) (t : List Role) (tab : t ≡ roleTable rs) (few :
         ∙ ap (λ F. leb 2 (fieldsOf (D .entry e) .kind) ⇒ not (sameFields (fieldsOf (D .entry e)) F)) (form-ok f hf)
         ∙ ap (λ b. b ⇒ not (sameFields (fieldsOf (D .entry e)) (fieldsOf (D .entry f)))) (sym (compound-kind (D .entry e)))
 
+    -- 5, 6 and 7: of one entry, and of all
+    pub simple-at : (e : ℕ) → e < n → simpleAt cs t e ≡ simpleTest D (D .entry e)
+    simple-at e h = simple-is e _ (entry-ok e h)
+
+    pub distinct-at : (f : ℕ) → f < n → allBelow f (λ e. not (twinAt cs f e)) ≡ distinctTest D f (D .entry f)
+    distinct-at f h = all-cong f _ _ (twin-is f h)
+
+    pub every-at : (e : ℕ) → e < n → everyAt cs t (upTo 16 (roleCount rs)) e ≡ everyBelowTest D (D .entry e)
+    every-at e h = every-is e _ h (entry-ok e h)
+
+    pub simples-are : simplesCode cs t ≡ simplesTest D
+    simples-are = rw (up-to-all mostEntries n small) (all-cong n _ _ simple-at)
+
+    distincts-are : distinctsCode cs ≡ distinctsTest D
+    distincts-are = all-cong n _ _ distinct-at
+
+    pub everys-are : everysCode cs t (upTo 16 (roleCount rs)) ≡ everysTest D
+    everys-are = rw (up-to-all mostEntries n small) (all-cong n _ _ every-at)
+
 -- 8: the root, then the rules
-literal-is : (x m : ℕ) → ltb x (2 * m) ≡ ltb (entryOf (literal x)) m
+pub literal-is : (x m : ℕ) → ltb x (2 * m) ≡ ltb (entryOf (literal x)) m
 literal-is x m = same-test _ _
     (λ h. ltb-so _ _ (code-entry (literal x) m .0 (rw (code-literal x) (so-ltb x (2 * m) h))))
     (λ h. ltb-so x (2 * m) (rw (code-literal x) at (code-entry (literal x) m .1 (so-ltb _ _ h))))
@@ -162,11 +178,8 @@ steps-are rs cs qs t tab = unless-then (sizesTest rs cs qs) (sizesTest rs cs qs)
     in-order (rolesCode rs) (entriesCode rs cs) (entriesTest (entryForm cs) D) (simplesCode cs t) (simplesTest D) (distinctsCode cs) (distinctsTest D)
     (everysCode cs t (upTo 16 (roleCount rs))) (everysTest D) (queryCode cs qs) (queryTest D)
     (all-cong n _ _ (λ e _. entries-are rs cs qs e)) (λ p. let ok = all-elim n (λ e. fieldsTest (length rs / 3) e (fieldsAt cs e)) p in
-    let fine = entry-ok rs cs qs t tab few small ok in (
-      rw (up-to-all mostEntries n small) (all-cong n _ _ (λ e h. simple-is rs cs qs t tab few small e _ (fine e h))),
-      all-cong n _ _ (λ f hf. all-cong f _ _ (twin-is rs cs qs t tab few small ok f hf)),
-      rw (up-to-all mostEntries n small) (all-cong n _ _ (λ e h. every-is rs cs qs t tab few small e _ h (fine e h))),
-    )) (query-is rs cs qs (z .1)))
+    (simples-are rs cs qs t tab few small ok, distincts-are rs cs qs t tab few small ok, everys-are rs cs qs t tab few small ok))
+    (query-is rs cs qs (z .1)))
   where
     D : Description
     D = describe rs cs qs

@@ -1,5 +1,5 @@
 -- Pieces laid into a buffer one behind the other (02, job 4): together they are the output, and what lies behind it stays.
-use Prim.Native.Nat.{ℕ, _+_, _-_, _≤_}
+use Prim.Native.Nat.{ℕ, _+_, _-_, _≤_, _<_}
 use mathlib.Core.Path.{_≡_, sym, _∙_, ap, ap₂}
 use mathlib.Core.List.{List, [], _∷_, _++_, flatten, append-assoc}
 use native.Mathlib.Omega.{arith}
@@ -21,6 +21,11 @@ laidFrom at (w ∷ ws) old = laidFrom (at + length w) ws (laid old at w)
 pub laid-copied : (old : List ℕ) (at : ℕ) (text : List ℕ) → paste old at text (length text) ≡ laid old at text
 unfolding laid
 laid-copied old at text = ap (λ w. take at old ++ w ++ drop (at + length text) old) (take-length text)
+
+-- one byte
+pub laid-one : (old : List ℕ) (at a : ℕ) → at < length old → set old at a ≡ laid old at (a ∷ [])
+laid-one old at a h = rw (add-zero at) at ((ap (λ l. set l (at + 0) a) (paste-zero old at (a ∷ [])))
+    ∙ paste-suc old at (a ∷ []) 0 0 (omega arith) (omega arith)) ∙ laid-copied old at (a ∷ [])
 
 -- two bytes, one after the other
 pub laid-two : (old : List ℕ) (at a b : ℕ) → at + 2 ≤ length old → set (set old at a) (at + 1) b ≡ laid old at (a ∷ b ∷ [])
