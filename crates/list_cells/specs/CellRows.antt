@@ -19,9 +19,10 @@ use Rattle.parts.specs.Numbers.{byteAt}
 use Rattle.labels.specs.Labels.{labelWith, valueOf, noLabel}
 use Rattle.labels.specs.declared.Label.{Label}
 use Rattle.description.specs.Literals.{literal, opposite, code, code-literal}
-use Rattle.description.specs.Descriptions.{entryOfFields}
+use Rattle.description.specs.Descriptions.{Fields, entryFrom, entryOfFields}
 use Rattle.tables.specs.Tables.{fieldsAt}
-use Rattle.tables.specs.Concepts.{conceptAt}
+use Rattle.tables.specs.Concepts.{fieldsStruct, conceptOf, conceptAt}
+use Rattle.tables.specs.declared.Fields as Code
 use Rattle.tables.specs.declared.Concept.{Concept}
 use Rattle.tables.specs.declared.Concept.the-variants.{Every}
 use Rattle.tables.specs.declared.RoleNo.{RoleNo}
@@ -278,6 +279,27 @@ module _ (cs : List ℕ) (a : List Role) (N : ℕ) (above : List ℕ) (f : ℕ) 
           ∙ ap (λ z. inRoom m && passes N z (has (maskAt above i) (t .0)) f l m) onward
           ∙ ap (λ z. inRoom m && z) (every-read cs f x (Every t l) e (q
           ∙ u) (λ t k. passes N (carriedAt cs a N f) (has (maskAt above i) t) f k m))
+
+-- the concept of the fields that the code has read
+module _ (cs : List ℕ) (f : ℕ) (g : Code.Fields) (e : g ≡ fieldsStruct cs f) where
+  pub every-concept : g .kind ≡ 3 → conceptAt cs f ≡ Every (record { 0 = g .role }) (g .first)
+  unfolding conceptOf entryFrom
+  every-concept k = let z : fieldsAt cs f .kind ≡ 3 = ap (λ g. g .kind) (sym e) ∙ k in
+      rw (z, e) (ap (Every (record { 0 = fieldsAt cs f .role })) (code-literal (fieldsAt cs f .first)))
+
+  pub other-concept : (g .kind ≡ 3 → ⊥) → (t : ℕ → ℕ → Bool) → everyOf t (conceptAt cs f) ≡ false
+  unfolding conceptOf entryFrom
+  other-concept k t = go (fieldsAt cs f .kind) (λ z. k (ap (λ g. g .kind) e ∙ z))
+    where
+      F : Fields
+      F = fieldsAt cs f
+
+      go : (n : ℕ) → (n ≡ 3 → ⊥) → everyOf t (conceptOf (entryFrom n (F .role) (F .first) (F .second) (F .number))) ≡ false
+      go zero h = refl
+      go (suc zero) h = refl
+      go (suc (suc zero)) h = refl
+      go (suc (suc (suc zero))) h = absurd (h refl)
+      go (suc (suc (suc (suc n)))) h = refl
 
 -- what is shown of no role
 shown-none : (cs : List ℕ) (N : ℕ) (on : ℕ → Bool) (T Q M n : ℕ) → T ≡ 0 → M ≡ 0

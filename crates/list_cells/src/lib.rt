@@ -1,13 +1,17 @@
 // Test 18 of a counting step: what every filler of a cell has, and that the record cited for the cell has no more.
 ghost use mathlib.Core.Path.{_≡_};
 ghost use mathlib.Core.Bool.{_&&_, cond, true, false};
-ghost use Prim.Native.Nat.{ℕ, _<_, _≤_};
+ghost use mathlib.Core.List.{List};
+ghost use Prim.Native.Nat.{ℕ, _%_, _<_, _≤_};
 ghost use lib.Dec.{eqb};
 ghost use lib.ListN.{length};
 ghost use Rattle.logic.specs.Bounded.{anyBelow};
 ghost use Rattle.logic.specs.Sets.{has};
 ghost use Rattle.parts.specs.Numbers.{upTo};
 ghost use Rattle.labels.specs.Labels.{mostEntries, valueOf, labelWith};
+ghost use Rattle.tables.specs.Concepts.{fieldsStruct};
+ghost use Rattle.roles.specs.Records.{roleAt};
+ghost use Rattle.roles.specs.declared.Role.{Role};
 ghost use Rattle.evidence.specs.Evidence.{labelOf};
 ghost use Rattle.rows.specs.HeldRows.{given, heldAt, rowsHeld};
 ghost use Rattle.fillers.specs.FillerSteps.{carried};
@@ -35,10 +39,10 @@ use roles::has16;
 use rows::Row;
 use rows::cell_count;
 use rows::row_at;
-use tables::Concept;
 use tables::EntryNo;
+use tables::Fields;
 use tables::RoleNo;
-use tables::concept_at;
+use tables::fields_at;
 use tables::entry_count;
 
 // The label with the literal `l`, if that is asked.
@@ -184,28 +188,24 @@ fn with_passed(old: [Label; 6], above: [u16; 6], t: RoleNo, y: Label) -> [Label;
     out
 }
 
-// Each label with what entry `f` shows of a cell of the row.
+// Each label with what entry `f`, with the fields `g` and the record of its role, shows of a cell of the row. The record, not the table: a
+// table handed on by value would be copied for each entry.
 fn with_every(
     old: [Label; 6],
     cs: &[u8],
-    table: [Role; 16],
+    g: Fields,
+    t: Role,
     x: Label,
     above: [u16; 6],
     f: EntryNo,
 ) -> [Label; 6]
-    requires { ⌜ (length old ≡ 6) × (f .0 < mostEntries) ⌝ }
-    ensures { λ r. ⌜ Grown old r (entryShows (now (cs .entry)) table (valueOf x) above (f .0)) ⌝ }
+    requires { ⌜ (length old ≡ 6) × (f .0 < mostEntries) × (g ≡ fieldsStruct (now cs) (f .0)) ⌝ }
+    ensures { λ r. ⌜ ((a : List Role) → t ≡ roleAt a (g .role % 16) → Grown old r (entryShows (now (cs .entry)) a (valueOf x) above (f .0))) ⌝ }
 {
-    let c = concept_at(cs, f);
-    match c {
-        Concept::Every(t, l) => {
-            let r = table[(t.0 % 16) as usize];
-            with_passed(old, above, t, passed_by(cs, r, x, f, l))
-        }
-        Concept::Top => old,
-        Concept::Name => old,
-        Concept::Both(_, _) => old,
-        Concept::AtLeast(_) => old,
+    if g.kind == 3 {
+        with_passed(old, above, RoleNo(g.role), passed_by(cs, t, x, f, g.first))
+    } else {
+        old
     }
 }
 
@@ -226,7 +226,9 @@ fn shown_of(
     let mut out = qualified_of(rows, k);
     let mut f: u8 = 0;
     while f < n {
-        let next = with_every(out, cs, table, x, above, EntryNo(f));
+        let g = fields_at(cs, EntryNo(f));
+        let t = table[(g.role % 16) as usize];
+        let next = with_every(out, cs, g, t, x, above, EntryNo(f));
         out = next;
         f += 1;
     }
