@@ -1,3 +1,8 @@
+use native.Mathlib.Omega.{arith}
+use Prim.Native.Nat.{_+_, _-_, _≤_}
+use mathlib.Core.Path.{_≡_}
+use lib.ListN.{length}
+use borrow.Author.Needs.{needs}
 use Rattle.editor_vectors.proofs.play.Statement.{statement}
 use Rattle.editor_vectors.proofs.play.Tie as tie
 use Rattle.editor_vectors.proofs.play.Reads as reads
@@ -10,78 +15,61 @@ use Rattle.parts.proofs.span.Reads as span-reads
 use Rattle.vector_rows.proofs.mark_from.Reads as mark-from-reads
 
 abbrev Inv-loop : tie.InvT-loop
-Inv-loop row script answers counts₀ state₀ right₀ at₀ from₀ counts state right at from = ?
+Inv-loop row script answers counts₀ state₀ right₀ at₀ from₀ counts state right at from = (at ≤ length script + 1) × (length counts ≡ length counts₀)
 
 abbrev μ-loop : tie.MeasureT-loop
-μ-loop row script answers counts₀ state₀ right₀ at₀ from₀ counts state right at from = ?
+μ-loop row script answers counts₀ state₀ right₀ at₀ from₀ counts state right at from = length script + 1 - at
 
--- src/main.rt:73:9
 start-requires : tie.Need-start-requires Inv-loop μ-loop
-start-requires c κs = ?
+start-requires c κs = search needs
 
--- src/main.rt:77:5
 loop-holds : tie.Need-loop-holds Inv-loop μ-loop
-loop-holds c = ?
+loop-holds c = search needs
 
--- src/main.rt:78:13
 mark-from-requires : tie.Need-mark-from-requires Inv-loop μ-loop
-mark-from-requires c κs = ?
+mark-from-requires c κs = search needs
 
--- src/main.rt:79:13
 mark-from-requires-2 : tie.Need-mark-from-requires-2 Inv-loop μ-loop
-mark-from-requires-2 c κs = ?
+mark-from-requires-2 c κs = search needs
 
--- src/main.rt:83:13
 sub-step : tie.Need-sub-step Inv-loop μ-loop
-sub-step c = ?
+sub-step c = search needs
 
--- src/main.rt:83:13
 part-step-start : tie.Need-part-step-start Inv-loop μ-loop
-part-step-start c = ?
+part-step-start c = search needs
 
--- src/main.rt:83:13
 part-step-end : tie.Need-part-step-end Inv-loop μ-loop
-part-step-end c = ?
+part-step-end c = search needs
 
--- src/main.rt:84:33
 sub-span : tie.Need-sub-span Inv-loop μ-loop
-sub-span c = ?
+sub-span c = search needs
 
--- src/main.rt:84:13
 span-requires : tie.Need-span-requires Inv-loop μ-loop
-span-requires c κs = ?
+span-requires c κs = search needs
 
--- src/main.rt:80:13
 step-requires : tie.Need-step-requires Inv-loop μ-loop
-step-requires c κs = ?
+step-requires c κs = search needs
 
--- src/main.rt:89:14
 add-at : tie.Need-add-at Inv-loop μ-loop
-add-at c = ?
+add-at c = omega (arith, c .before .before .before .before .before .before .before .before .before .before .before .before .before .before .before .before .good)
 
--- src/main.rt:90:9
 after-requires : tie.Need-after-requires Inv-loop μ-loop
-after-requires c κs = ?
+after-requires c κs = search needs
 
--- src/main.rt:77:5
 loop-less : tie.Need-loop-less Inv-loop μ-loop
-loop-less c = ?
+loop-less c = search needs
 
--- src/main.rt:77:5
 loop-again : tie.Need-loop-again Inv-loop μ-loop
-loop-again c = ?
+loop-again c = search needs
 
--- src/main.rt:94:24
 none-left-requires : tie.Need-none-left-requires Inv-loop μ-loop
-none-left-requires c κs = ?
+none-left-requires c κs = search needs
 
--- src/main.rt:72:1
 same-length : tie.Need-same-length Inv-loop μ-loop
-same-length c = ?
+same-length c = search needs
 
--- src/main.rt:72:1
 returns : tie.Need-returns Inv-loop μ-loop
-returns c = ?
+returns c = search needs
 
 pub play-spec : {M : Type 1} → statement M
 play-spec =
