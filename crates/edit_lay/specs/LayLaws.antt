@@ -10,7 +10,7 @@ use Rattle.logic.specs.SetLaws.{single-word}
 use Rattle.laying.specs.Numbers.{two}
 use Rattle.laying.specs.Laying.{laid, laidFrom, laid-long, laid-pieces, laid-output}
 use Rattle.edit_bytes.specs.Out.{withPairs}
-use Rattle.edit_lay.specs.Lays.{pairPieces, pairsOf}
+use Rattle.edit_lay.specs.Lays.{pairPieces, pairsOf, sizeWith, writtenOver}
 
 -- the mask with one bit, as the code sets it
 pub parent-mask : (x p : ℕ) → bitOr x (1 * 2 ^ (p % 16) % 65536) ≡ with x (p % 16)
@@ -35,14 +35,15 @@ unfolding laidFrom
 parts-laid old rs cs qs = refl
 
 -- all of it
-pub with-pairs-long : (rs cs qs : List ℕ) → length (withPairs rs cs qs) ≡ 12 + length rs + length cs + length qs
+pub with-pairs-long : (rs cs qs : List ℕ) → length (withPairs rs cs qs) ≡ sizeWith rs cs qs
 with-pairs-long rs cs qs = omega (arith, length-append rs (cs ++ qs), length-append cs qs)
 
-pub description-laid : (old rs cs qs : List ℕ) → 12 + length rs + length cs + length qs ≤ length old
+pub description-laid : (old rs cs qs : List ℕ) → sizeWith rs cs qs ≤ length old
     → laidFrom 12 (rs ∷ cs ∷ qs ∷ []) (laid old 0 (pairsOf (length rs) (length cs) (length qs)))
-    ≡ withPairs rs cs qs ++ drop (12 + length rs + length cs + length qs) old
+    ≡ writtenOver old rs cs qs
 unfolding laidFrom pairsOf flatten
-description-laid old rs cs qs h = laid-output pieces old (subst (λ w. length w ≤ length old) (sym out-is) (omega (arith, with-pairs-long rs cs qs)))
+description-laid old rs cs qs h =
+    laid-output pieces old (subst (λ w. length w ≤ length old) (sym out-is) (omega (arith, with-pairs-long rs cs qs)))
     ∙ ap (λ w. w ++ drop (length w) old) out-is ∙ ap (λ n. withPairs rs cs qs ++ drop n old) (with-pairs-long rs cs qs)
   where
     pieces : List (List ℕ)

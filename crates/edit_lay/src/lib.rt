@@ -1,15 +1,14 @@
 // What the editor lays into bytes: a role, an entry, and a whole description.
 ghost use mathlib.Core.Path.{_≡_};
 ghost use Prim.Native.Nat.{_+_, _*_, _%_, _<_, _≤_};
-ghost use mathlib.Core.List.{[], _∷_, _++_};
-ghost use lib.ListN.{length, drop};
+ghost use mathlib.Core.List.{[], _∷_};
+ghost use lib.ListN.{length};
 ghost use denote.Ref.{now};
 ghost use Rattle.logic.specs.Sets.{with};
 ghost use Rattle.labels.specs.Labels.{mostEntries};
 ghost use Rattle.laying.specs.Numbers.{two};
 ghost use Rattle.laying.specs.Laying.{laid, laidFrom};
-ghost use Rattle.edit_bytes.specs.Out.{withPairs};
-ghost use Rattle.edit_lay.specs.Lays.{withParent, sixBytes, pairsOf};
+ghost use Rattle.edit_lay.specs.Lays.{withParent, sixBytes, pairsOf, sizeWith, writtenOver};
 use laying::copy_bytes;
 use laying::put2;
 use parts::byte;
@@ -73,7 +72,7 @@ fn lay_pairs(buf: &mut [u8], a: u16, b: u16, c: u16)
 
 // The three parts, behind the pairs.
 fn lay_parts(buf: &mut [u8], rs: &[u8], cs: &[u8], qs: &[u8])
-    requires { ⌜ 12 + length (now rs) + length (now cs) + length (now qs) ≤ length (now buf) ⌝ }
+    requires { ⌜ sizeWith (now rs) (now cs) (now qs) ≤ length (now buf) ⌝ }
     ensures { λ _. ⌜ now (buf .exit) ≡ laidFrom 12 (now (rs .entry) ∷ now (cs .entry) ∷ now (qs .entry) ∷ []) (now (buf .entry)) ⌝ }
 {
     copy_bytes(buf, 12, rs);
@@ -83,8 +82,8 @@ fn lay_parts(buf: &mut [u8], rs: &[u8], cs: &[u8], qs: &[u8])
 
 // The description of these parts: three pairs, and the parts.
 pub fn lay_description(buf: &mut [u8], rs: &[u8], cs: &[u8], qs: &[u8])
-    requires { ⌜ (12 + length (now rs) + length (now cs) + length (now qs) ≤ length (now buf)) × (12 + length (now rs) + length (now cs) + length (now qs) < 65536) ⌝ }
-    ensures { λ _. ⌜ now (buf .exit) ≡ withPairs (now (rs .entry)) (now (cs .entry)) (now (qs .entry)) ++ drop (12 + length (now (rs .entry)) + length (now (cs .entry)) + length (now (qs .entry))) (now (buf .entry)) ⌝ }
+    requires { ⌜ (sizeWith (now rs) (now cs) (now qs) ≤ length (now buf)) × (sizeWith (now rs) (now cs) (now qs) < 65536) ⌝ }
+    ensures { λ _. ⌜ now (buf .exit) ≡ writtenOver (now (buf .entry)) (now (rs .entry)) (now (cs .entry)) (now (qs .entry)) ⌝ }
 {
     lay_pairs(buf, rs.len() as u16, cs.len() as u16, qs.len() as u16);
     lay_parts(buf, rs, cs, qs);

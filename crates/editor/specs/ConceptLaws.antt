@@ -1,12 +1,13 @@
 -- A concept, put into the state: its six bytes behind the others, and 4 to 7 of the one new entry.
-use Prim.Native.Nat.{ℕ, suc, _+_, _*_, _/_, _%_, _≤_, _<_}
-use mathlib.Core.Path.{_≡_, refl, sym, _∙_, ap, ap₂, subst}
+use Prim.Native.Nat.{ℕ, suc, _+_, _*_, _%_, _≤_, _<_}
+use mathlib.Core.Path.{_≡_, refl, sym, _∙_, ap, ap₂}
 use mathlib.Core.Bool.{Bool, true, false, not, _&&_}
-use mathlib.Core.List.{List, [], _∷_, _++_, map, flatten}
+use mathlib.Core.List.{List, [], _∷_}
 use mathlib.Core.Option.{none, some}
 use native.Mathlib.Omega.{arith}
 use native.Mathlib.Nat.{mod-eq-of-lt}
 use borrow.Author.Tests.{lt-ltb, le-ltb}
+use lib.Dec.{ltb}
 use lib.ListN.{length, take, drop}
 use Rattle.logic.specs.Tests.{So}
 use Rattle.logic.specs.Bounded.{allBelow}
@@ -20,7 +21,6 @@ use Rattle.tables.specs.Tables.{fieldsTest, fields↔}
 use Rattle.tables.specs.Concepts.{fieldsIn}
 use Rattle.tables.specs.declared.Fields as Code
 use Rattle.roles.specs.Records.{roleTable}
-use Rattle.roles.specs.declared.Role.{Role}
 use Rattle.intake.specs.Everys.{everyAt}
 use Rattle.intake.specs.Steps.{simpleAt, twinAt, fields-are}
 use Rattle.editing.specs.Editing.{Draft, describes, entryForm, concept, putIn, refusal}
@@ -31,7 +31,8 @@ use Rattle.edit_bytes.specs.Out.{entryBytes, rolesOut, conceptsOut}
 use Rattle.edit_bytes.specs.OutLaws.{concepts-long}
 use Rattle.edit_lay.specs.Lays.{sixBytes}
 use Rattle.editor.specs.declared.Editor.{Editor}
-use Rattle.editor.specs.Holding.{filled, stateOf, Holds, withConcepts}
+use Rattle.editor.specs.Holding.{filled, stateOf, Holds}
+use Rattle.editor.specs.NextStates.{withConcepts}
 use Rattle.editor.specs.FillLaws.{filled-on, filled-front, bytes-snoc}
 use Rattle.editor.specs.StateLaws.{counted}
 use Rattle.editor.specs.TestLaws.{simple-held, distinct-held, every-held}
@@ -70,7 +71,8 @@ module _ (s : Editor) (T : Draft) (h : Holds s T) (f : Code.Fields) where
   concept-4 k e = concept-answers T (h .made) F ∙ rw (lt-ltb n mostEntries (omega (arith, entered)), sym fields-is ∙ e) refl
 
   -- the code's bytes, and the slice of the entries with the new one
-  module _ (more cs : List ℕ) (q : more ≡ laid (s .concepts) (6 * s .entries) (sixBytes f)) (k : cs ≡ take (6 * s .entries + 6) (drop 0 more))
+  module _ (more cs : List ℕ) (q : more ≡ laid (s .concepts) (6 * s .entries) (sixBytes f))
+      (k : cs ≡ take (6 * s .entries + 6) (drop 0 more))
       (room : s .entries < mostEntries) (four : fieldsTest (s .count) (s .entries) F ≡ true) where
     small : F .number ≤ 1000
     small = let w = fields↔ D n F .0 (ap₂ (λ c e. fieldsTest c e F) (sym (counted s T h)) (sym entered) ∙ four) in
@@ -84,7 +86,8 @@ module _ (s : Editor) (T : Draft) (h : Holds s T) (f : Code.Fields) where
 
     more-is : more ≡ filled 384 (conceptsOut U)
     unfolding conceptsOut
-    more-is = q ∙ ap (λ s. laid (s .concepts) (6 * s .entries) (sixBytes f)) (h .state) ∙ ap (laid (filled 384 (conceptsOut T)) (6 * n)) six-are
+    more-is = q ∙ ap (λ s. laid (s .concepts) (6 * s .entries) (sixBytes f)) (h .state)
+        ∙ ap (laid (filled 384 (conceptsOut T)) (6 * n)) six-are
         ∙ filled-on 384 (conceptsOut T) (entryBytes F) (6 * n) (sym (concepts-long T)) (omega (arith, concepts-long T, entered, room))
         ∙ ap (filled 384) (sym (bytes-snoc 6 entryBytes (λ _. refl) (T .entries) F))
 
@@ -113,7 +116,8 @@ module _ (s : Editor) (T : Draft) (h : Holds s T) (f : Code.Fields) where
     simple-is : simpleAt cs (s .table) (s .entries) ≡ simpleTest D (entryOfFields F)
     simple-is = ap₂ (λ cs t. simpleAt cs t (s .entries)) cs-is table-is ∙ ap (simpleAt (conceptsOut U) (roleTable (rolesOut U))) entered
         ∙ simple-held U few ok n inside ∙ ap (λ E. simpleTest E (E .entry n)) (grows T (passed (h .made)) F)
-        ∙ ap (simpleTest (grown T (passed (h .made)) F)) (new-entry T (passed (h .made)) F) ∙ simple-same T (passed (h .made)) F (entryOfFields F)
+        ∙ ap (simpleTest (grown T (passed (h .made)) F)) (new-entry T (passed (h .made)) F)
+        ∙ simple-same T (passed (h .made)) F (entryOfFields F)
 
     distinct-is : allBelow (s .entries) (λ e. not (twinAt cs (s .entries) e)) ≡ distinctTest D n (entryOfFields F)
     distinct-is = ap₂ (λ cs m. allBelow m (λ e. not (twinAt cs m e))) cs-is entered
@@ -123,7 +127,11 @@ module _ (s : Editor) (T : Draft) (h : Holds s T) (f : Code.Fields) where
     every-is : everyAt cs (s .table) (upTo 16 (s .count)) (s .entries) ≡ everyBelowTest (describes U) (entryOfFields F)
     every-is = ap₂ (λ cs t. everyAt cs t (upTo 16 (s .count)) (s .entries)) cs-is table-is
         ∙ ap₂ (λ c e. everyAt (conceptsOut U) (roleTable (rolesOut U)) (upTo 16 c) e) (counted s T h) entered
-        ∙ every-held U few ok n inside ∙ ap (λ F. everyBelowTest (describes U) (entryOfFields F)) (at-snoc-new (T .entries) F (fieldsOf top))
+        ∙ every-held U few ok n inside
+        ∙ ap (λ F. everyBelowTest (describes U) (entryOfFields F)) (at-snoc-new (T .entries) F (fieldsOf top))
+
+    has-room : ltb n mostEntries ≡ true
+    has-room = lt-ltb n mostEntries (omega (arith, entered, room))
 
     abbrev five : Bool
     five = simpleAt cs (s .table) (s .entries)
@@ -135,20 +143,21 @@ module _ (s : Editor) (T : Draft) (h : Holds s T) (f : Code.Fields) where
     seven = everyAt cs (s .table) (upTo 16 (s .count)) (s .entries)
 
     pub concept-5 : five ≡ false → refusal T (concept F) ≡ some 5
-    concept-5 a = concept-answers T (h .made) F ∙ rw (lt-ltb n mostEntries (omega (arith, entered)), sym fields-is ∙ four, sym simple-is ∙ a) refl
+    concept-5 a = concept-answers T (h .made) F
+        ∙ rw (has-room, sym fields-is ∙ four, sym simple-is ∙ a) refl
 
     pub concept-6 : five ≡ true → six ≡ false → refusal T (concept F) ≡ some 6
     concept-6 a b = concept-answers T (h .made) F
-        ∙ rw (lt-ltb n mostEntries (omega (arith, entered)), sym fields-is ∙ four, sym simple-is ∙ a, sym distinct-is ∙ b) refl
+        ∙ rw (has-room, sym fields-is ∙ four, sym simple-is ∙ a, sym distinct-is ∙ b) refl
 
     pub concept-7 : five ≡ true → six ≡ true → seven ≡ false → refusal T (concept F) ≡ some 7
     concept-7 a b c = concept-answers T (h .made) F
-        ∙ rw (lt-ltb n mostEntries (omega (arith, entered)), sym fields-is ∙ four, sym simple-is ∙ a, sym distinct-is ∙ b, sym every-is ∙ c) refl
+        ∙ rw (has-room, sym fields-is ∙ four, sym simple-is ∙ a, sym distinct-is ∙ b, sym every-is ∙ c) refl
 
     pub concept-done : five ≡ true → six ≡ true → seven ≡ true
         → (refusal T (concept F) ≡ none) × (withConcepts s more (s .entries + 1) ≡ stateOf U)
     concept-done a b c = (
       concept-answers T (h .made) F
-          ∙ rw (lt-ltb n mostEntries (omega (arith, entered)), sym fields-is ∙ four, sym simple-is ∙ a, sym distinct-is ∙ b, sym every-is ∙ c) refl,
+          ∙ rw (has-room, sym fields-is ∙ four, sym simple-is ∙ a, sym distinct-is ∙ b, sym every-is ∙ c) refl,
       next-is,
     )

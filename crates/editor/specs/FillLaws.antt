@@ -1,6 +1,6 @@
 -- Arrays that are filled to a place: what is laid behind the bytes and in them, and what is read at the front.
 use Prim.Native.Nat.{ℕ, zero, suc, _+_, _-_, _*_, _≤_, _<_}
-use mathlib.Core.Path.{_≡_, refl, sym, _∙_, ap, ap₂}
+use mathlib.Core.Path.{_≡_, sym, _∙_, ap, ap₂}
 use mathlib.Core.List.{List, [], _∷_, _++_, map, flatten, append-nil, append-assoc}
 use native.Mathlib.Omega.{arith}
 use native.Mathlib.Nat.{zero-add}
@@ -15,7 +15,8 @@ drop-zeros (suc m) zero = ap (λ k. replicate k 0) (let z : 0 ≡ 0 - suc m = om
 drop-zeros (suc m) (suc n) = drop-zeros m n ∙ ap (λ k. replicate k 0) (let z : n - m ≡ suc n - suc m = omega arith in z)
 
 -- bytes laid behind the bytes that are there
-pub filled-on : (size : ℕ) (x w : List ℕ) (at : ℕ) → at ≡ length x → length x + length w ≤ size → laid (filled size x) at w ≡ filled size (x ++ w)
+pub filled-on : (size : ℕ) (x w : List ℕ) (at : ℕ) → at ≡ length x → length x + length w ≤ size
+    → laid (filled size x) at w ≡ filled size (x ++ w)
 unfolding laid filled
 filled-on size x w at e h = rw e (ap₂ (λ a b. a ++ w ++ b) (take-append-seam x zeros)
     (drop-append-add x zeros (length w) ∙ drop-zeros (length w) (size - length x)
@@ -63,7 +64,8 @@ module _ {A : Type 0} (k : ℕ) (write : A → List ℕ) (long : (x : A) → len
       ∙ ap (λ n. laid (write y ++ (bytes xs ++ tail)) n (write x)) (let z : k * 0 ≡ 0 = omega arith in z)
       ∙ laid-over (write y) (bytes xs ++ tail) (write x) (long y ∙ sym (long x)) ∙ sym (append-assoc (write x) (bytes xs) tail)
   laid-among (y ∷ xs) (suc i) x tail h = ap (λ s. laid s (k * suc i) (write x)) (append-assoc (write y) (bytes xs) tail)
-      ∙ ap (λ n. laid (write y ++ (bytes xs ++ tail)) n (write x)) (let z : k * suc i ≡ length (write y) + k * i = omega (arith, long y) in z)
+      ∙ ap (λ n. laid (write y ++ (bytes xs ++ tail)) n (write x))
+      (let z : k * suc i ≡ length (write y) + k * i = omega (arith, long y) in z)
       ∙ laid-behind (write y) (bytes xs ++ tail) (k * i) (write x) ∙ ap (λ s. write y ++ s) (laid-among xs i x tail (omega arith))
       ∙ sym (append-assoc (write y) (bytes (set xs i x)) tail)
 

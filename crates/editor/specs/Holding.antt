@@ -1,9 +1,8 @@
 -- The editor's state (02, job 4): the state that holds a draft, and what an operation gives.
-use Prim.Native.Nat.{ℕ, _-_, _*_}
+use Prim.Native.Nat.{ℕ, _-_}
 use mathlib.Core.Path.{_≡_}
-use mathlib.Core.Bool.{Bool}
 use mathlib.Core.List.{List, _++_}
-use lib.ListN.{length, replicate, take, drop}
+use lib.ListN.{length, replicate}
 use Rattle.roles.specs.Records.{roleTable}
 use Rattle.answers.specs.Answers.{wholly, answer, DONE, ofChange}
 use Rattle.editing.specs.Editing.{Draft, isSet, Edit, refusal, edited, Made}
@@ -37,42 +36,3 @@ pub record Holds (s : Editor) (T : Draft) : Type 0 where
 pub record Edits (T : Draft) (e : Edit) (r : Told.Edited) : Type 0 where
   pub answer : ofChange (r .answer) ≡ answer DONE (wholly (refusal T e))
   pub state : Holds (r .state) (edited T e)
-
--- the state with the bytes of n roles, and their records made anew
-abbrev pub withRoles : Editor → List ℕ → ℕ → Editor
-withRoles s roles n = record {
-  roles = roles;
-  concepts = s .concepts;
-  query = s .query;
-  table = roleTable (take (3 * n) (drop 0 roles));
-  count = n;
-  entries = s .entries;
-  rooted = s .rooted;
-  rules = s .rules;
-}
-
--- the state with the bytes of n entries
-abbrev pub withConcepts : Editor → List ℕ → ℕ → Editor
-withConcepts s concepts n = record {
-  roles = s .roles;
-  concepts = concepts;
-  query = s .query;
-  table = s .table;
-  count = s .count;
-  entries = n;
-  rooted = s .rooted;
-  rules = s .rules;
-}
-
--- the state with another query
-abbrev pub withQuery : Editor → List ℕ → Bool → ℕ → Editor
-withQuery s query rooted rules = record {
-  roles = s .roles;
-  concepts = s .concepts;
-  query = query;
-  table = s .table;
-  count = s .count;
-  entries = s .entries;
-  rooted = rooted;
-  rules = rules;
-}

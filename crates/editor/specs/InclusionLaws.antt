@@ -1,16 +1,16 @@
 -- An inclusion, put into the state: its one bit among the bytes, the records made anew, and 5 and 7 of the draft with it.
-use Prim.Native.Nat.{ℕ, suc, _+_, _-_, _*_, _/_, _%_, _^_, _≤_, _<_}
-use mathlib.Core.Path.{_≡_, refl, sym, _∙_, ap, ap₂, subst}
+use Prim.Native.Nat.{ℕ, _+_, _-_, _*_, _%_, _<_}
+use mathlib.Core.Path.{_≡_, refl, sym, _∙_, ap, ap₂}
 use mathlib.Core.Bool.{Bool, true, false, _&&_}
-use mathlib.Core.List.{List, [], _∷_, _++_, map, flatten}
+use mathlib.Core.List.{List, _∷_}
 use mathlib.Core.Option.{none, some}
 use native.Mathlib.Omega.{arith}
-use native.Mathlib.Nat.{mod-eq-of-lt, mod-lt}
+use native.Mathlib.Nat.{mod-eq-of-lt}
 use lib.Dec.{ltb}
-use lib.ListN.{length, set, take, drop, replicate, length-set, List·getD-append}
+use lib.ListN.{length, take, drop, replicate, length-set, List·getD-append}
 use Rattle.logic.specs.Tests.{So, and-l, and-r, so-ltb}
 use Rattle.logic.specs.Sets.{with}
-use Rattle.parts.specs.Numbers.{byteAt, num2, upTo}
+use Rattle.parts.specs.Numbers.{byteAt, upTo}
 use Rattle.laying.specs.Numbers.{two}
 use Rattle.laying.specs.Laying.{laid}
 use Rattle.description.specs.Acceptance.{entriesTest, simplesTest, everysTest}
@@ -23,7 +23,8 @@ use Rattle.edit_bytes.specs.Out.{roleBytes, rolesOut, conceptsOut}
 use Rattle.edit_bytes.specs.OutLaws.{roles-long, concepts-long, byte-of, mask-of}
 use Rattle.edit_lay.specs.Lays.{withParent}
 use Rattle.editor.specs.declared.Editor.{Editor}
-use Rattle.editor.specs.Holding.{filled, stateOf, Holds, withRoles}
+use Rattle.editor.specs.Holding.{filled, stateOf, Holds}
+use Rattle.editor.specs.NextStates.{withRoles}
 use Rattle.editor.specs.FillLaws.{filled-front, filled-set}
 use Rattle.editor.specs.StateLaws.{counted, roles-state}
 use Rattle.editor.specs.TestLaws.{simples-held, everys-held}
@@ -47,7 +48,8 @@ module _ (T : Draft) (r p : ℕ) where
   unfolding rolesOut
   parent-laid h = ap₂ (λ t m. laid (filled 48 (rolesOut T)) (3 * r) (t ∷ two (with m p)))
       (byte-filled 48 (rolesOut T) (3 * r) (omega (arith, roles-long T)) ∙ byte-of T r)
-      (ap₂ (λ (a b : ℕ). a * 256 + b) (byte-filled 48 (rolesOut T) (3 * r + 1) (omega (arith, roles-long T))) (byte-filled 48 (rolesOut T) (3 * r + 1 + 1) (omega (arith, roles-long T))) ∙ mask-of T r)
+      (ap₂ (λ (a b : ℕ). a * 256 + b) (byte-filled 48 (rolesOut T) (3 * r + 1) (omega (arith, roles-long T)))
+      (byte-filled 48 (rolesOut T) (3 * r + 1 + 1) (omega (arith, roles-long T))) ∙ mask-of T r)
       ∙ filled-set 3 roleBytes (λ R. refl) 48 (T .roles) r changed h (omega (arith, roles-long U, roles-long T, as-many))
 
 -- the code's next state, and the slice of the entries
@@ -67,7 +69,8 @@ module _ (s next : Editor) (cs : List ℕ) (r p : ℕ) (q : next ≡ withRoles s
     hp = so-ltb p _ (and-r (ltb r (length (T .roles))) _ (same-test ∙ i))
 
     next-is : next ≡ stateOf (putIn T (inclusion r p))
-    next-is = let m = made-few T (h .made) in let a : r % 16 ≡ r = mod-eq-of-lt (omega (arith, hr)) in let b : p % 16 ≡ p = mod-eq-of-lt (omega (arith, hp)) in
+    next-is = let m = made-few T (h .made) in
+        let a : r % 16 ≡ r = mod-eq-of-lt (omega (arith, hr)) in let b : p % 16 ≡ p = mod-eq-of-lt (omega (arith, hp)) in
         q ∙ ap (λ s. withRoles s (withParent (s .roles) (r % 16) (p % 16)) (s .count)) (h .state)
         ∙ roles-state T _ _ _ (sym (as-many T r p)) (ap₂ (withParent (filled 48 (rolesOut T))) a b ∙ parent-laid T r p hr)
 
@@ -79,14 +82,16 @@ module _ (s next : Editor) (cs : List ℕ) (r p : ℕ) (q : next ≡ withRoles s
 
     cs-is : cs ≡ conceptsOut (putIn T (inclusion r p))
     unfolding conceptsOut
-    cs-is = k ∙ ap (λ s. take (6 * s .entries) (drop 0 (s .concepts))) (h .state) ∙ filled-front 384 (conceptsOut T) _ (sym (concepts-long T))
+    cs-is = k ∙ ap (λ s. take (6 * s .entries) (drop 0 (s .concepts))) (h .state)
+        ∙ filled-front 384 (conceptsOut T) _ (sym (concepts-long T))
 
     simples-is : simplesCode cs (next .table) ≡ simplesTest (describes (putIn T (inclusion r p)))
     simples-is = ap₂ simplesCode cs-is (ap (λ s. s .table) next-is) ∙ simples-held (putIn T (inclusion r p)) few ok
 
     everys-is : everysCode cs (next .table) (upTo 16 (s .count)) ≡ everysTest (describes (putIn T (inclusion r p)))
     everys-is = ap₂ (λ cs t. everysCode cs t (upTo 16 (s .count))) cs-is (ap (λ s. s .table) next-is)
-        ∙ ap (λ n. everysCode (conceptsOut (putIn T (inclusion r p))) (roleTable (rolesOut (putIn T (inclusion r p)))) (upTo 16 n)) (counted s T h ∙ sym (as-many T r p)) ∙ everys-held (putIn T (inclusion r p)) few ok
+        ∙ ap (λ n. everysCode (conceptsOut (putIn T (inclusion r p))) (roleTable (rolesOut (putIn T (inclusion r p)))) (upTo 16 n))
+        (counted s T h ∙ sym (as-many T r p)) ∙ everys-held (putIn T (inclusion r p)) few ok
 
     pub inclusion-5 : simplesCode cs (next .table) ≡ false → refusal T (inclusion r p) ≡ some 5
     inclusion-5 e = inclusion-answers T (h .made) r p ∙ rw (same-test ∙ i, sym simples-is ∙ e) refl

@@ -1,4 +1,5 @@
 pub mod Holding
+pub mod NextStates
 pub mod FillLaws
 pub mod StateLaws
 pub mod QueryLaws

@@ -1,5 +1,5 @@
 -- The root and the rules, put into the state.
-use Prim.Native.Nat.{ℕ, suc, _+_, _-_, _*_, _≤_, _<_}
+use Prim.Native.Nat.{ℕ, _+_, _*_, _≤_, _<_}
 use mathlib.Core.Path.{_≡_, refl, sym, _∙_, ap, ap₂}
 use mathlib.Core.Bool.{true, false}
 use mathlib.Core.List.{List, [], _∷_, _++_}
@@ -13,11 +13,12 @@ use Rattle.laying.specs.Laying.{laid-one}
 use Rattle.description.specs.Literals.{literal}
 use Rattle.description.specs.Acceptance.{literalTest}
 use Rattle.intake.specs.Steps.{literal-is}
-use Rattle.editing.specs.Editing.{Draft, isSet, rootOf, describes, newRoot, newRule, putIn, refusal}
+use Rattle.editing.specs.Editing.{Draft, isSet, describes, newRoot, newRule, putIn, refusal}
 use Rattle.editing.specs.Answers.{root-answers, rule-answers}
 use Rattle.edit_bytes.specs.Out.{rolesOut, conceptsOut, queryOut}
 use Rattle.editor.specs.declared.Editor.{Editor}
-use Rattle.editor.specs.Holding.{filled, stateOf, Holds, withQuery}
+use Rattle.editor.specs.Holding.{filled, stateOf, Holds}
+use Rattle.editor.specs.NextStates.{withQuery}
 use Rattle.editor.specs.FillLaws.{filled-on, filled-long}
 
 module _ (s : Editor) (T : Draft) (h : Holds s T) (l : ℕ) where
@@ -56,7 +57,8 @@ module _ (s : Editor) (T : Draft) (h : Holds s T) (l : ℕ) where
     rule-answers T (h .made) l ∙ rw (lt-ltb (length (T .rules)) 16 (omega (arith, ruled)), literal-test ∙ u) refl,
     ap (λ s. withQuery s (set (s .query) (1 + s .rules) l) (s .rooted) (s .rules + 1)) (h .state)
         ∙ ap₂ (λ q n. withQuery (stateOf T) q (isSet (T .root)) n) (laid-one (filled 17 qs) (1 + m) l (omega (arith, room, long))
-        ∙ filled-on 17 qs (l ∷ []) (1 + m) (omega arith) room) (let z : m + 1 ≡ length (T .rules ++ (l ∷ [])) = omega (arith, length-snoc (T .rules) l) in z),
+        ∙ filled-on 17 qs (l ∷ []) (1 + m) (omega arith) room)
+        (let z : m + 1 ≡ length (T .rules ++ (l ∷ [])) = omega (arith, length-snoc (T .rules) l) in z),
   )
     where
       qs : List ℕ

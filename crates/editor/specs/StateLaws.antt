@@ -1,13 +1,12 @@
--- What each operation leaves: a refusal gives back the state as it came; what is done leaves the state that holds the draft with it put in.
-use Prim.Native.Nat.{ℕ, suc, _+_, _-_, _*_, _/_, _≤_, _<_}
-use mathlib.Core.Path.{_≡_, refl, sym, _∙_, ap, ap₂, subst}
+-- What an operation leaves: a refusal gives back the state as it came; what is done leaves the state of the draft with it put in.
+use Prim.Native.Nat.{ℕ, _+_, _*_, _/_, _≤_, _<_}
+use mathlib.Core.Path.{_≡_, refl, sym, _∙_, ap, subst}
 use mathlib.Core.Bool.{Bool, true, false}
 use mathlib.Core.List.{List, [], _∷_, _++_, flatten}
-use mathlib.Core.Option.{Option, none, some}
+use mathlib.Core.Option.{none, some}
 use native.Mathlib.Omega.{arith}
 use borrow.Author.Tests.{lt-ltb, le-ltb, lt-leb, le-leb}
-use lib.ListN.{length, take, drop, replicate}
-use Rattle.logic.specs.Tests.{So}
+use lib.ListN.{length, replicate}
 use Rattle.logic.specs.Lists.{length-snoc}
 use Rattle.description.specs.Roles.{simple}
 use Rattle.laying.specs.Numbers.{two}
@@ -17,14 +16,15 @@ use Rattle.roles.specs.Ancestors.{ancestorMask}
 use Rattle.roles.specs.Records.{roleAt, roleTable, table-bytes, table-parents, table-masks, table-simple}
 use Rattle.answers.specs.declared.Change.the-variants.{Done, Refused}
 use Rattle.answers.specs.Answers.{wholly, answer, DONE, ofChange, unlessRefused}
-use Rattle.editing.specs.Editing.{RoleIn, Draft, roleIn, describes, nothing, Edit, newRole, putIn, refusal, edited, Made, start, next}
+use Rattle.editing.specs.Editing.{RoleIn, Draft, roleIn, describes, nothing, Edit, newRole, putIn, refusal, start, next}
 use Rattle.editing.specs.Kept.{made-few}
 use Rattle.editing.specs.Answers.{role-answers}
 use Rattle.edit_bytes.specs.Out.{roleBytes, rolesOut, conceptsOut, queryOut}
 use Rattle.edit_bytes.specs.OutLaws.{roles-long, byte-of, mask-of, is-described}
 use Rattle.editor.specs.declared.Editor.{Editor}
 use Rattle.editor.specs.declared.Edited as Told
-use Rattle.editor.specs.Holding.{filled, stateOf, Holds, Edits, withRoles}
+use Rattle.editor.specs.Holding.{filled, stateOf, Holds, Edits}
+use Rattle.editor.specs.NextStates.{withRoles}
 use Rattle.editor.specs.FillLaws.{filled-on, filled-front, bytes-snoc}
 
 -- ---- the answers
@@ -76,7 +76,8 @@ pub roles-state : (T : Draft) (R : List RoleIn) (bytes : List ℕ) (n : ℕ) →
     → bytes ≡ filled 48 (rolesOut (record { roles = R; entries = T .entries; root = T .root; rules = T .rules }))
     → withRoles (stateOf T) bytes n ≡ stateOf (record { roles = R; entries = T .entries; root = T .root; rules = T .rules })
 unfolding conceptsOut
-roles-state T R bytes n e q = rw (q, e) (ap (λ rs. withTable (roleTable rs)) (filled-front 48 (rolesOut U) (3 * length R) (sym (roles-long U))))
+roles-state T R bytes n e q = rw (q, e)
+    (ap (λ rs. withTable (roleTable rs)) (filled-front 48 (rolesOut U) (3 * length R) (sym (roles-long U))))
   where
     U : Draft
     U = record { roles = R; entries = T .entries; root = T .root; rules = T .rules }
@@ -150,7 +151,8 @@ module _ (s : Editor) (T : Draft) (h : Holds s T) where
     role-added k u = (
       role-answers T (h .made) b ∙ rw (lt-ltb (length (T .roles)) 16 (omega (arith, counted)), le-leb b 1 u) refl,
       ap (λ s. withRoles s (laid (s .roles) (3 * s .count) (b ∷ two 0)) (s .count + 1)) (h .state)
-          ∙ roles-state T _ _ _ (let z : length (T .roles) + 1 ≡ length (T .roles ++ (new ∷ [])) = omega (arith, length-snoc (T .roles) new) in z)
+          ∙ roles-state T _ _ _
+          (let z : length (T .roles) + 1 ≡ length (T .roles ++ (new ∷ [])) = omega (arith, length-snoc (T .roles) new) in z)
           (new-role T b (omega (arith, counted))),
     )
       where

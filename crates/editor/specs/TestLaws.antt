@@ -1,8 +1,8 @@
--- The checker's tests of entries, on the bytes and records that the state holds, are the theory's tests of the draft: of every draft within
--- the limits whose entries keep 4.
-use Prim.Native.Nat.{ℕ, suc, _+_, _*_, _/_, _≤_, _<_}
-use mathlib.Core.Path.{_≡_, refl, sym, _∙_, ap, ap₂}
-use mathlib.Core.Bool.{Bool, not, _&&_}
+-- The checker's tests of entries, on the bytes and records that the state holds, are the theory's tests of the draft: of every draft
+-- within the limits whose entries keep 4.
+use Prim.Native.Nat.{ℕ, _/_, _≤_, _<_}
+use mathlib.Core.Path.{_≡_, refl, sym, _∙_, ap}
+use mathlib.Core.Bool.{not, _&&_}
 use mathlib.Core.List.{List}
 use native.Mathlib.Omega.{arith}
 use lib.ListN.{length}
@@ -10,7 +10,7 @@ use Rattle.logic.specs.Tests.{So}
 use Rattle.logic.specs.Bounded.{allBelow, all-elim}
 use Rattle.parts.specs.Numbers.{upTo, up-to-all}
 use Rattle.labels.specs.Labels.{mostEntries}
-use Rattle.description.specs.Descriptions.{Description, fieldsOf, entryOfFields, sameFields}
+use Rattle.description.specs.Descriptions.{fieldsOf, entryOfFields, sameFields}
 use Rattle.description.specs.Acceptance.{entriesTest, entryTest, simplesTest, simpleTest, distinctTest, everysTest, everyBelowTest}
 use Rattle.tables.specs.Tables.{fieldsAt, fieldsTest, describe}
 use Rattle.roles.specs.Ancestors.{roleCount}
@@ -57,7 +57,8 @@ module _ (U : Draft) (few : Few U) (ok : So (entriesTest (entryForm U) (describe
   simples-held = simples-are rs cs qs t refl few-roles few-entries fields-ok ∙ ap simplesTest (is-described U)
 
   pub everys-held : everysCode cs t (upTo 16 (length (U .roles))) ≡ everysTest (describes U)
-  everys-held = ap (everysCode cs t) same-count ∙ everys-are rs cs qs t refl few-roles few-entries fields-ok ∙ ap everysTest (is-described U)
+  everys-held = ap (everysCode cs t) same-count ∙ everys-are rs cs qs t refl few-roles few-entries fields-ok
+      ∙ ap everysTest (is-described U)
 
   -- 5, 6 and 7 of one
   module _ (e : ℕ) (h : e < length (U .entries)) where
@@ -65,10 +66,12 @@ module _ (U : Draft) (few : Few U) (ok : So (entriesTest (entryForm U) (describe
     inside = omega (arith, h, concepts-long U)
 
     pub simple-held : simpleAt cs t e ≡ simpleTest (describes U) (describes U .entry e)
-    simple-held = simple-at rs cs qs t refl few-roles few-entries fields-ok e inside ∙ ap (λ D. simpleTest D (D .entry e)) (is-described U)
+    simple-held = simple-at rs cs qs t refl few-roles few-entries fields-ok e inside
+        ∙ ap (λ D. simpleTest D (D .entry e)) (is-described U)
 
     pub distinct-held : allBelow e (λ f. not (twinAt cs e f)) ≡ distinctTest (describes U) e (describes U .entry e)
-    distinct-held = distinct-at rs cs qs t refl few-roles few-entries fields-ok e inside ∙ ap (λ D. distinctTest D e (D .entry e)) (is-described U)
+    distinct-held = distinct-at rs cs qs t refl few-roles few-entries fields-ok e inside
+        ∙ ap (λ D. distinctTest D e (D .entry e)) (is-described U)
 
     pub every-held : everyAt cs t (upTo 16 (length (U .roles))) e ≡ everyBelowTest (describes U) (describes U .entry e)
     every-held = ap (λ n. everyAt cs t n e) same-count ∙ every-at rs cs qs t refl few-roles few-entries fields-ok e inside

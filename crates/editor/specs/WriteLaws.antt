@@ -1,23 +1,24 @@
 -- Writing out: what the code lays into the buffer, for every state; and of a state that holds a draft, that it is what was put in.
-use Prim.Native.Nat.{ℕ, suc, _+_, _-_, _*_, _≤_, _<_}
+use Prim.Native.Nat.{ℕ, _+_, _*_, _≤_, _<_}
 use mathlib.Core.Path.{_≡_, refl, sym, _∙_, ap, ap₂}
 use mathlib.Core.Bool.{Bool, true, false, _&&_}
-use mathlib.Core.List.{List, [], _∷_, _++_, flatten, append-nil}
+use mathlib.Core.List.{List, _++_}
 use mathlib.Core.Option.{none, some}
 use native.Mathlib.Omega.{arith}
 use borrow.Author.Tests.{lt-leb, le-leb}
 use lib.Dec.{leb}
-use lib.ListN.{length, take, drop, length-append, length-take}
+use lib.ListN.{length, take, drop, length-take}
 use lib.Seq.{drop-at}
 use Rattle.answers.specs.declared.Output.{Output}
 use Rattle.answers.specs.declared.Output.the-variants.{Bytes, Refused}
 use Rattle.answers.specs.Answers.{wholly, answer, WRITTEN, ofOutput, sizeOf, unlessRefused, buffered}
-use Rattle.editing.specs.Editing.{Draft, isSet}
+use Rattle.editing.specs.Editing.{Draft}
 use Rattle.edit_bytes.specs.Out.{rolesOut, conceptsOut, queryOut, withPairs, outBytes, whole, outRefused, outAnswer, outLength, outBuffer}
-use Rattle.edit_bytes.specs.OutLaws.{roles-long, concepts-long, out-length}
+use Rattle.edit_bytes.specs.OutLaws.{roles-long, concepts-long}
+use Rattle.edit_lay.specs.Lays.{sizeWith, writtenOver}
 use Rattle.edit_lay.specs.LayLaws.{with-pairs-long}
 use Rattle.editor.specs.declared.Editor.{Editor}
-use Rattle.editor.specs.Holding.{filled, stateOf, Holds}
+use Rattle.editor.specs.Holding.{Holds}
 use Rattle.editor.specs.FillLaws.{filled-front}
 
 pub span-short : (n : ℕ) (s r : List ℕ) → r ≡ take n (drop 0 s) → length r ≤ n
@@ -41,7 +42,8 @@ refused-writes s old n f = (
 )
 
 pub done-writes : (s : Editor) (old new : List ℕ) (n : ℕ)
-    → ((T : Draft) → Holds s T → (outRefused T (length old) ≡ none) × (n ≡ length (outBytes T)) × (new ≡ outBytes T ++ drop (length (outBytes T)) old))
+    → ((T : Draft) → Holds s T → (outRefused T (length old) ≡ none) × (n ≡ length (outBytes T))
+    × (new ≡ outBytes T ++ drop (length (outBytes T)) old))
     → drop n new ≡ drop n old → Writes s old (Bytes n) new
 done-writes s old new n f g = (
   λ T h. sym (ap (λ o. answer WRITTEN (wholly o)) (f T h .0)),
@@ -67,16 +69,17 @@ unfolding outRefused
 out-part s T h n e = rw (is-whole s T h ∙ e) refl
 
 -- ---- the parts that the code cuts out of the state
-module _ (s : Editor) (rs cs qs : List ℕ) (er : rs ≡ take (3 * s .count) (drop 0 (s .roles))) (ec : cs ≡ take (6 * s .entries) (drop 0 (s .concepts)))
+module _ (s : Editor) (rs cs qs : List ℕ) (er : rs ≡ take (3 * s .count) (drop 0 (s .roles)))
+    (ec : cs ≡ take (6 * s .entries) (drop 0 (s .concepts)))
     (eq : qs ≡ take (1 + s .rules) (drop 0 (s .query))) (old : List ℕ) where
   abbrev size : ℕ
-  size = 12 + length rs + length cs + length qs
+  size = sizeWith rs cs qs
 
   abbrev held : Bool
   held = leb 1 (s .count) && (leb 1 (s .entries) && s .rooted)
 
   -- of every state, bytes past them stay
-  pub past-stays : drop size (withPairs rs cs qs ++ drop size old) ≡ drop size old
+  pub past-stays : drop size (writtenOver old rs cs qs) ≡ drop size old
   past-stays = drop-at (withPairs rs cs qs) (drop size old) size (with-pairs-long rs cs qs)
 
   -- of a state that holds a draft they are what is written out
@@ -85,8 +88,10 @@ module _ (s : Editor) (rs cs qs : List ℕ) (er : rs ≡ take (3 * s .count) (dr
     unfolding outBytes
     out-is = same
         (er ∙ ap (λ s. take (3 * s .count) (drop 0 (s .roles))) (h .state) ∙ filled-front 48 (rolesOut T) _ (sym (roles-long T)))
-        (ec ∙ ap (λ s. take (6 * s .entries) (drop 0 (s .concepts))) (h .state) ∙ filled-front 384 (conceptsOut T) _ (sym (concepts-long T)))
-        (eq ∙ ap (λ s. take (1 + s .rules) (drop 0 (s .query))) (h .state) ∙ filled-front 17 (queryOut T) (1 + length (T .rules)) (omega arith))
+        (ec ∙ ap (λ s. take (6 * s .entries) (drop 0 (s .concepts))) (h .state)
+        ∙ filled-front 384 (conceptsOut T) _ (sym (concepts-long T)))
+        (eq ∙ ap (λ s. take (1 + s .rules) (drop 0 (s .query))) (h .state)
+        ∙ filled-front 17 (queryOut T) (1 + length (T .rules)) (omega arith))
       where
         same : {R R′ C C′ Q Q′ : List ℕ} → R ≡ R′ → C ≡ C′ → Q ≡ Q′ → withPairs R C Q ≡ withPairs R′ C′ Q′
         same p q r = rw (p, q, r) refl
@@ -99,7 +104,7 @@ module _ (s : Editor) (rs cs qs : List ℕ) (er : rs ≡ take (3 * s .count) (dr
     out-short e k = rw (is-whole s T h ∙ e, lt-leb (length (outBytes T)) (length old) (omega (arith, out-size))) refl
 
     pub out-done : held ≡ true → size ≤ length old → (outRefused T (length old) ≡ none) × (size ≡ length (outBytes T))
-        × (withPairs rs cs qs ++ drop size old ≡ outBytes T ++ drop (length (outBytes T)) old)
+        × (writtenOver old rs cs qs ≡ outBytes T ++ drop (length (outBytes T)) old)
     unfolding outRefused
     out-done e k = (
       rw (is-whole s T h ∙ e, le-leb (length (outBytes T)) (length old) (omega (arith, out-size))) refl,

@@ -12,7 +12,8 @@ ghost use Rattle.answers.specs.declared.Output.the-variants as Outputs;
 ghost use Rattle.answers.specs.declared.Output.the-variants.{Bytes};
 ghost use Rattle.answers.specs.Answers.{ofOutput, sizeOf};
 ghost use Rattle.edit_bytes.specs.Out.{outAnswer, outLength, outBuffer};
-ghost use Rattle.editor.specs.Holding.{Holds, Edits, withRoles, withConcepts};
+ghost use Rattle.editor.specs.Holding.{Holds, Edits};
+ghost use Rattle.editor.specs.NextStates.{withRoles, withConcepts};
 use answers::Change;
 use answers::Output;
 use edit_lay::lay_description;
@@ -139,10 +140,12 @@ pub fn add_inclusion(s: Editor, r: RoleNo, p: RoleNo) -> Edited
     let table = next.table;
     let concepts = s.concepts;
     let cs = span(&concepts, 0, 6 * (s.entries as usize));
-    if !simples_ok(cs, table) {
+    let simple = simples_ok(cs, table);
+    let below = everys_ok(cs, table, n);
+    if !simple {
         return refused(s, 5);
     }
-    if !everys_ok(cs, table, n) {
+    if !below {
         return refused(s, 7);
     }
     done(next)
@@ -174,13 +177,16 @@ pub fn add_concept(s: Editor, f: Fields) -> Edited
     let more = lay_entry(concepts, n, f);
     let table = s.table;
     let cs = span(&more, 0, 6 * (n as usize) + 6);
-    if !simple_ok(cs, EntryNo(n), table) {
+    let counts = simple_ok(cs, EntryNo(n), table);
+    let fresh = distinct_ok(cs, EntryNo(n));
+    let held = every_at(cs, table, s.count, EntryNo(n));
+    if !counts {
         return refused(s, 5);
     }
-    if !distinct_ok(cs, EntryNo(n)) {
+    if !fresh {
         return refused(s, 6);
     }
-    if !every_at(cs, table, s.count, EntryNo(n)) {
+    if !held {
         return refused(s, 7);
     }
     done(with_concepts(s, more, n + 1))
@@ -212,16 +218,16 @@ pub fn add_rule(s: Editor, literal: u8) -> Edited
     ensures made { λ r. ⌜ ((T : Draft) → Holds s T → Edits T (newRule literal) r) ⌝ }
     ensures kept { λ r. ⌜ ((n m : ℕ) → r .answer ≡ Refused n m → r .state ≡ s) ⌝ }
 {
-    let n = s.rules;
-    if 16 <= n {
+    let k = s.rules;
+    if 16 <= k {
         return refused(s, 25);
     }
     if !is_literal(literal, s.entries) {
         return refused(s, 8);
     }
     let mut next = s;
-    next.query[1 + (n as usize)] = literal;
-    next.rules = n + 1;
+    next.query[1 + (k as usize)] = literal;
+    next.rules = k + 1;
     done(next)
 }
 

@@ -8,8 +8,8 @@ use Rattle.editor.proofs.add_concept.Statement.{statement}
 use Rattle.editor.proofs.add_concept.Tie as tie
 use Rattle.editor.proofs.add_concept.Reads as reads
 use Rattle.editor.proofs.add_concept.Lts as lts
-use Rattle.editor.proofs.done.Reads as done-reads
 use Rattle.edit_lay.proofs.lay_entry.Reads as lay-entry-reads
+use Rattle.editor.proofs.done.Reads as done-reads
 use Rattle.editor.proofs.refused.Reads as refused-reads
 use Rattle.editor.proofs.with_concepts.Reads as with-concepts-reads
 use Rattle.intake.proofs.distinct_ok.Reads as distinct-ok-reads
@@ -57,29 +57,29 @@ span-requires c κs = search needs
 simple-ok-requires : tie.Need-simple-ok-requires
 simple-ok-requires c κs = search needs
 
+distinct-ok-requires : tie.Need-distinct-ok-requires
+distinct-ok-requires c κs = search needs
+
+every-at-requires : tie.Need-every-at-requires
+every-at-requires c κs = search needs
+
 refused-requires-3 : tie.Need-refused-requires-3
 refused-requires-3 c κs = search needs
 
 returns-3 : tie.Need-returns-3
-returns-3 c = refused-answers (c .before .before .before .before .before .before .before .before .before .before .before .before .args .s) _ _ 5 (c .refused3 .ensures) (λ T h. concept-5 (c .before .before .before .before .before .before .before .before .before .before .before .before .args .s) T h (c .before .before .before .before .before .before .before .before .before .before .before .before .args .f) (c .before .before .before .before .before .before .lay-entry .result) (c .before .before .before .span .result .now) (c .before .before .before .before .before .before .lay-entry .ensures) (c .before .before .before .span .ensures) (omega (arith, c .before .before .before .before .before .before .before .before .before .before .before .if1 .left)) (sym (c .before .before .before .before .before .before .before .before .before .fields-ok .ensures) ∙ not-false _ (c .before .before .before .before .before .before .before .before .if2 .left)) (sym (c .before .before .simple-ok .ensures) ∙ not-true _ (c .before .if3 .taken)))
-
-distinct-ok-requires : tie.Need-distinct-ok-requires
-distinct-ok-requires c κs = search needs
+returns-3 c = refused-answers (c .before .before .before .before .before .before .before .before .before .before .before .before .before .before .args .s) _ _ 5 (c .refused3 .ensures) (λ T h. concept-5 (c .before .before .before .before .before .before .before .before .before .before .before .before .before .before .args .s) T h (c .before .before .before .before .before .before .before .before .before .before .before .before .before .before .args .f) (c .before .before .before .before .before .before .before .before .lay-entry .result) (c .before .before .before .before .before .span .result .now) (c .before .before .before .before .before .before .before .before .lay-entry .ensures) (c .before .before .before .before .before .span .ensures) (omega (arith, c .before .before .before .before .before .before .before .before .before .before .before .before .before .if1 .left)) (sym (c .before .before .before .before .before .before .before .before .before .before .before .fields-ok .ensures) ∙ not-false _ (c .before .before .before .before .before .before .before .before .before .before .if2 .left)) (sym (c .before .before .before .before .simple-ok .ensures) ∙ not-true _ (c .before .if3 .taken)))
 
 refused-requires-4 : tie.Need-refused-requires-4
 refused-requires-4 c κs = search needs
 
 returns-4 : tie.Need-returns-4
-returns-4 c = refused-answers (c .before .before .before .before .before .before .before .before .before .before .before .before .before .before .args .s) _ _ 6 (c .refused4 .ensures) (λ T h. concept-6 (c .before .before .before .before .before .before .before .before .before .before .before .before .before .before .args .s) T h (c .before .before .before .before .before .before .before .before .before .before .before .before .before .before .args .f) (c .before .before .before .before .before .before .before .before .lay-entry .result) (c .before .before .before .before .before .span .result .now) (c .before .before .before .before .before .before .before .before .lay-entry .ensures) (c .before .before .before .before .before .span .ensures) (omega (arith, c .before .before .before .before .before .before .before .before .before .before .before .before .before .if1 .left)) (sym (c .before .before .before .before .before .before .before .before .before .before .before .fields-ok .ensures) ∙ not-false _ (c .before .before .before .before .before .before .before .before .before .before .if2 .left)) (sym (c .before .before .before .before .simple-ok .ensures) ∙ not-false _ (c .before .before .before .if3 .left)) (sym (c .before .before .distinct-ok .ensures) ∙ not-true _ (c .before .if4 .taken)))
-
-every-at-requires : tie.Need-every-at-requires
-every-at-requires c κs = search needs
+returns-4 c = refused-answers (c .before .before .before .before .before .before .before .before .before .before .before .before .before .before .before .args .s) _ _ 6 (c .refused4 .ensures) (λ T h. concept-6 (c .before .before .before .before .before .before .before .before .before .before .before .before .before .before .before .args .s) T h (c .before .before .before .before .before .before .before .before .before .before .before .before .before .before .before .args .f) (c .before .before .before .before .before .before .before .before .before .lay-entry .result) (c .before .before .before .before .before .before .span .result .now) (c .before .before .before .before .before .before .before .before .before .lay-entry .ensures) (c .before .before .before .before .before .before .span .ensures) (omega (arith, c .before .before .before .before .before .before .before .before .before .before .before .before .before .before .if1 .left)) (sym (c .before .before .before .before .before .before .before .before .before .before .before .before .fields-ok .ensures) ∙ not-false _ (c .before .before .before .before .before .before .before .before .before .before .before .if2 .left)) (sym (c .before .before .before .before .before .simple-ok .ensures) ∙ not-false _ (c .before .before .if3 .left)) (sym (c .before .before .before .before .distinct-ok .ensures) ∙ not-true _ (c .before .if4 .taken)))
 
 refused-requires-5 : tie.Need-refused-requires-5
 refused-requires-5 c κs = search needs
 
 returns-5 : tie.Need-returns-5
-returns-5 c = refused-answers (c .before .before .before .before .before .before .before .before .before .before .before .before .before .before .before .before .args .s) _ _ 7 (c .refused5 .ensures) (λ T h. concept-7 (c .before .before .before .before .before .before .before .before .before .before .before .before .before .before .before .before .args .s) T h (c .before .before .before .before .before .before .before .before .before .before .before .before .before .before .before .before .args .f) (c .before .before .before .before .before .before .before .before .before .before .lay-entry .result) (c .before .before .before .before .before .before .before .span .result .now) (c .before .before .before .before .before .before .before .before .before .before .lay-entry .ensures) (c .before .before .before .before .before .before .before .span .ensures) (omega (arith, c .before .before .before .before .before .before .before .before .before .before .before .before .before .before .before .if1 .left)) (sym (c .before .before .before .before .before .before .before .before .before .before .before .before .before .fields-ok .ensures) ∙ not-false _ (c .before .before .before .before .before .before .before .before .before .before .before .before .if2 .left)) (sym (c .before .before .before .before .before .before .simple-ok .ensures) ∙ not-false _ (c .before .before .before .before .before .if3 .left)) (sym (c .before .before .before .before .distinct-ok .ensures) ∙ not-false _ (c .before .before .before .if4 .left)) (sym (c .before .before .every-at .ensures) ∙ not-true _ (c .before .if5 .taken)))
+returns-5 c = refused-answers (c .before .before .before .before .before .before .before .before .before .before .before .before .before .before .before .before .args .s) _ _ 7 (c .refused5 .ensures) (λ T h. concept-7 (c .before .before .before .before .before .before .before .before .before .before .before .before .before .before .before .before .args .s) T h (c .before .before .before .before .before .before .before .before .before .before .before .before .before .before .before .before .args .f) (c .before .before .before .before .before .before .before .before .before .before .lay-entry .result) (c .before .before .before .before .before .before .before .span .result .now) (c .before .before .before .before .before .before .before .before .before .before .lay-entry .ensures) (c .before .before .before .before .before .before .before .span .ensures) (omega (arith, c .before .before .before .before .before .before .before .before .before .before .before .before .before .before .before .if1 .left)) (sym (c .before .before .before .before .before .before .before .before .before .before .before .before .before .fields-ok .ensures) ∙ not-false _ (c .before .before .before .before .before .before .before .before .before .before .before .before .if2 .left)) (sym (c .before .before .before .before .before .before .simple-ok .ensures) ∙ not-false _ (c .before .before .before .if3 .left)) (sym (c .before .before .before .before .before .distinct-ok .ensures) ∙ not-false _ (c .before .before .if4 .left)) (sym (c .before .before .before .before .every-at .ensures) ∙ not-true _ (c .before .if5 .taken)))
 
 add-with-concepts : tie.Need-add-with-concepts
 add-with-concepts c = search needs
@@ -91,7 +91,7 @@ done-requires : tie.Need-done-requires
 done-requires c κs = search needs
 
 returns-6 : tie.Need-returns-6
-returns-6 c = done-answers (c .before .before .before .before .before .before .before .before .before .before .before .before .before .before .before .before .before .args .s) _ _ _ (c .done .ensures) (λ T h. rw (c .before .with-concepts .ensures) (concept-done (c .before .before .before .before .before .before .before .before .before .before .before .before .before .before .before .before .before .args .s) T h (c .before .before .before .before .before .before .before .before .before .before .before .before .before .before .before .before .before .args .f) (c .before .before .before .before .before .before .before .before .before .before .before .lay-entry .result) (c .before .before .before .before .before .before .before .before .span .result .now) (c .before .before .before .before .before .before .before .before .before .before .before .lay-entry .ensures) (c .before .before .before .before .before .before .before .before .span .ensures) (omega (arith, c .before .before .before .before .before .before .before .before .before .before .before .before .before .before .before .before .if1 .left)) (sym (c .before .before .before .before .before .before .before .before .before .before .before .before .before .before .fields-ok .ensures) ∙ not-false _ (c .before .before .before .before .before .before .before .before .before .before .before .before .before .if2 .left)) (sym (c .before .before .before .before .before .before .before .simple-ok .ensures) ∙ not-false _ (c .before .before .before .before .before .before .if3 .left)) (sym (c .before .before .before .before .before .distinct-ok .ensures) ∙ not-false _ (c .before .before .before .before .if4 .left)) (sym (c .before .before .before .every-at .ensures) ∙ not-false _ (c .before .before .if5 .left))))
+returns-6 c = done-answers (c .before .before .before .before .before .before .before .before .before .before .before .before .before .before .before .before .before .args .s) _ _ _ (c .done .ensures) (λ T h. rw (c .before .with-concepts .ensures) (concept-done (c .before .before .before .before .before .before .before .before .before .before .before .before .before .before .before .before .before .args .s) T h (c .before .before .before .before .before .before .before .before .before .before .before .before .before .before .before .before .before .args .f) (c .before .before .before .before .before .before .before .before .before .before .before .lay-entry .result) (c .before .before .before .before .before .before .before .before .span .result .now) (c .before .before .before .before .before .before .before .before .before .before .before .lay-entry .ensures) (c .before .before .before .before .before .before .before .before .span .ensures) (omega (arith, c .before .before .before .before .before .before .before .before .before .before .before .before .before .before .before .before .if1 .left)) (sym (c .before .before .before .before .before .before .before .before .before .before .before .before .before .before .fields-ok .ensures) ∙ not-false _ (c .before .before .before .before .before .before .before .before .before .before .before .before .before .if2 .left)) (sym (c .before .before .before .before .before .before .before .simple-ok .ensures) ∙ not-false _ (c .before .before .before .before .if3 .left)) (sym (c .before .before .before .before .before .before .distinct-ok .ensures) ∙ not-false _ (c .before .before .before .if4 .left)) (sym (c .before .before .before .before .before .every-at .ensures) ∙ not-false _ (c .before .before .if5 .left))))
 
 pub add-concept-spec : {M : Type 1} → statement M
 add-concept-spec =
@@ -110,12 +110,12 @@ add-concept-spec =
     add-span
     span-requires
     simple-ok-requires
+    distinct-ok-requires
+    every-at-requires
     refused-requires-3
     returns-3
-    distinct-ok-requires
     refused-requires-4
     returns-4
-    every-at-requires
     refused-requires-5
     returns-5
     add-with-concepts

@@ -46,26 +46,26 @@ span-requires c κs = search needs
 simples-ok-requires : tie.Need-simples-ok-requires
 simples-ok-requires c κs = search needs
 
+everys-ok-requires : tie.Need-everys-ok-requires
+everys-ok-requires c κs = search needs
+
 refused-requires-2 : tie.Need-refused-requires-2
 refused-requires-2 c κs = search needs
 
 returns-2 : tie.Need-returns-2
-returns-2 c = refused-answers (c .before .before .before .before .before .before .before .before .before .before .before .before .before .args .s) _ _ 5 (c .refused2 .ensures) (λ T h. inclusion-5 (c .before .before .before .before .before .before .before .before .before .before .before .before .before .args .s) (c .before .before .before .before .before .before .before .before .with-roles .result) (c .before .before .before .span .result .now) (c .before .before .before .before .before .before .before .before .before .before .before .before .before .args .r .0) (c .before .before .before .before .before .before .before .before .before .before .before .before .before .args .p .0) (rw (c .before .before .before .before .before .before .before .before .with-roles .ensures, c .before .before .before .before .before .before .before .before .before .lay-parent .ensures) refl) (c .before .before .before .span .ensures) T h (sym (c .before .before .before .before .before .before .before .before .before .before .before .before .are-roles .ensures) ∙ not-false _ (c .before .before .before .before .before .before .before .before .before .before .before .if1 .left)) (sym (c .before .before .simples-ok .ensures) ∙ not-true _ (c .before .if2 .taken)))
-
-everys-ok-requires : tie.Need-everys-ok-requires
-everys-ok-requires c κs = search needs
+returns-2 c = refused-answers (c .before .before .before .before .before .before .before .before .before .before .before .before .before .before .args .s) _ _ 5 (c .refused2 .ensures) (λ T h. inclusion-5 (c .before .before .before .before .before .before .before .before .before .before .before .before .before .before .args .s) (c .before .before .before .before .before .before .before .before .before .with-roles .result) (c .before .before .before .before .span .result .now) (c .before .before .before .before .before .before .before .before .before .before .before .before .before .before .args .r .0) (c .before .before .before .before .before .before .before .before .before .before .before .before .before .before .args .p .0) (rw (c .before .before .before .before .before .before .before .before .before .with-roles .ensures, c .before .before .before .before .before .before .before .before .before .before .lay-parent .ensures) refl) (c .before .before .before .before .span .ensures) T h (sym (c .before .before .before .before .before .before .before .before .before .before .before .before .before .are-roles .ensures) ∙ not-false _ (c .before .before .before .before .before .before .before .before .before .before .before .before .if1 .left)) (sym (c .before .before .before .simples-ok .ensures) ∙ not-true _ (c .before .if2 .taken)))
 
 refused-requires-3 : tie.Need-refused-requires-3
 refused-requires-3 c κs = search needs
 
 returns-3 : tie.Need-returns-3
-returns-3 c = refused-answers (c .before .before .before .before .before .before .before .before .before .before .before .before .before .before .before .args .s) _ _ 7 (c .refused3 .ensures) (λ T h. inclusion-7 (c .before .before .before .before .before .before .before .before .before .before .before .before .before .before .before .args .s) (c .before .before .before .before .before .before .before .before .before .before .with-roles .result) (c .before .before .before .before .before .span .result .now) (c .before .before .before .before .before .before .before .before .before .before .before .before .before .before .before .args .r .0) (c .before .before .before .before .before .before .before .before .before .before .before .before .before .before .before .args .p .0) (rw (c .before .before .before .before .before .before .before .before .before .before .with-roles .ensures, c .before .before .before .before .before .before .before .before .before .before .before .lay-parent .ensures) refl) (c .before .before .before .before .before .span .ensures) T h (sym (c .before .before .before .before .before .before .before .before .before .before .before .before .before .before .are-roles .ensures) ∙ not-false _ (c .before .before .before .before .before .before .before .before .before .before .before .before .before .if1 .left)) (sym (c .before .before .before .before .simples-ok .ensures) ∙ not-false _ (c .before .before .before .if2 .left)) (sym (c .before .before .everys-ok .ensures) ∙ not-true _ (c .before .if3 .taken)))
+returns-3 c = refused-answers (c .before .before .before .before .before .before .before .before .before .before .before .before .before .before .before .args .s) _ _ 7 (c .refused3 .ensures) (λ T h. inclusion-7 (c .before .before .before .before .before .before .before .before .before .before .before .before .before .before .before .args .s) (c .before .before .before .before .before .before .before .before .before .before .with-roles .result) (c .before .before .before .before .before .span .result .now) (c .before .before .before .before .before .before .before .before .before .before .before .before .before .before .before .args .r .0) (c .before .before .before .before .before .before .before .before .before .before .before .before .before .before .before .args .p .0) (rw (c .before .before .before .before .before .before .before .before .before .before .with-roles .ensures, c .before .before .before .before .before .before .before .before .before .before .before .lay-parent .ensures) refl) (c .before .before .before .before .before .span .ensures) T h (sym (c .before .before .before .before .before .before .before .before .before .before .before .before .before .before .are-roles .ensures) ∙ not-false _ (c .before .before .before .before .before .before .before .before .before .before .before .before .before .if1 .left)) (sym (c .before .before .before .before .simples-ok .ensures) ∙ not-false _ (c .before .before .if2 .left)) (sym (c .before .before .before .everys-ok .ensures) ∙ not-true _ (c .before .if3 .taken)))
 
 done-requires : tie.Need-done-requires
 done-requires c κs = search needs
 
 returns-4 : tie.Need-returns-4
-returns-4 c = done-answers (c .before .before .before .before .before .before .before .before .before .before .before .before .before .before .before .args .s) _ _ _ (c .done .ensures) (λ T h. inclusion-done (c .before .before .before .before .before .before .before .before .before .before .before .before .before .before .before .args .s) (c .before .before .before .before .before .before .before .before .before .before .with-roles .result) (c .before .before .before .before .before .span .result .now) (c .before .before .before .before .before .before .before .before .before .before .before .before .before .before .before .args .r .0) (c .before .before .before .before .before .before .before .before .before .before .before .before .before .before .before .args .p .0) (rw (c .before .before .before .before .before .before .before .before .before .before .with-roles .ensures, c .before .before .before .before .before .before .before .before .before .before .before .lay-parent .ensures) refl) (c .before .before .before .before .before .span .ensures) T h (sym (c .before .before .before .before .before .before .before .before .before .before .before .before .before .before .are-roles .ensures) ∙ not-false _ (c .before .before .before .before .before .before .before .before .before .before .before .before .before .if1 .left)) (sym (c .before .before .before .before .simples-ok .ensures) ∙ not-false _ (c .before .before .before .if2 .left)) (sym (c .before .before .everys-ok .ensures) ∙ not-false _ (c .before .if3 .left)))
+returns-4 c = done-answers (c .before .before .before .before .before .before .before .before .before .before .before .before .before .before .before .args .s) _ _ _ (c .done .ensures) (λ T h. inclusion-done (c .before .before .before .before .before .before .before .before .before .before .before .before .before .before .before .args .s) (c .before .before .before .before .before .before .before .before .before .before .with-roles .result) (c .before .before .before .before .before .span .result .now) (c .before .before .before .before .before .before .before .before .before .before .before .before .before .before .before .args .r .0) (c .before .before .before .before .before .before .before .before .before .before .before .before .before .before .before .args .p .0) (rw (c .before .before .before .before .before .before .before .before .before .before .with-roles .ensures, c .before .before .before .before .before .before .before .before .before .before .before .lay-parent .ensures) refl) (c .before .before .before .before .before .span .ensures) T h (sym (c .before .before .before .before .before .before .before .before .before .before .before .before .before .before .are-roles .ensures) ∙ not-false _ (c .before .before .before .before .before .before .before .before .before .before .before .before .before .if1 .left)) (sym (c .before .before .before .before .simples-ok .ensures) ∙ not-false _ (c .before .before .if2 .left)) (sym (c .before .before .before .everys-ok .ensures) ∙ not-false _ (c .before .if3 .left)))
 
 pub add-inclusion-spec : {M : Type 1} → statement M
 add-inclusion-spec =
@@ -81,9 +81,9 @@ add-inclusion-spec =
     mul-span
     span-requires
     simples-ok-requires
+    everys-ok-requires
     refused-requires-2
     returns-2
-    everys-ok-requires
     refused-requires-3
     returns-3
     done-requires
