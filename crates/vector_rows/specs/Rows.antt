@@ -10,6 +10,7 @@ use borrow.Author.Tests.{eq-eqb, ne-eqb, lt-ltb, le-ltb}
 use lib.Dec.{eqb, ltb}
 use lib.ListN.{length, getD, set, take, drop, drop-of-length-le}
 use lib.Seq.{length-take-le, drop-cons, drop-drop}
+use Rattle.logic.specs.Bounded.{allBelow}
 use Rattle.parts.specs.Numbers.{byteAt}
 use Rattle.parts.specs.Filling.{Filled}
 
@@ -21,6 +22,10 @@ digitOf c = cond (ltb c 58) (c % 16) ((c % 16 + 9) % 16)
 -- byte i of those that the digits say, two to a byte; `past` where they end
 unfoldable pub byteSaid : List ℕ → ℕ → ℕ → ℕ
 byteSaid hex i past = cond (ltb i (length hex / 2)) (16 * digitOf (byteAt hex (2 * i)) + digitOf (byteAt hex (2 * i + 1))) past
+
+-- whether each byte of a buffer is the one that the digits say, and `past` where they end
+abbrev pub bytesSaid : List ℕ → List ℕ → ℕ → Bool
+bytesSaid buf hex past = allBelow (length buf) (λ i. eqb (byteAt buf i) (byteSaid hex i past))
 
 -- the first n bytes of a buffer are those that the digits say, and n is as many as fit
 pub record Decoded (hex old new : List ℕ) (n : ℕ) : Type 0 where

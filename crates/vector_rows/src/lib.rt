@@ -3,9 +3,8 @@ ghost use mathlib.Core.Path.{_≡_};
 ghost use Prim.Native.Nat.{_+_, _%_, _<_, _≤_, max};
 ghost use lib.Dec.{eqb};
 ghost use lib.ListN.{length, drop, replicate};
-ghost use Rattle.logic.specs.Bounded.{allBelow};
 ghost use Rattle.parts.specs.Numbers.{byteAt};
-ghost use Rattle.vector_rows.specs.Rows.{digitOf, byteSaid, Decoded, until, skip, fieldOf, numberFrom, longestFile, counted};
+ghost use Rattle.vector_rows.specs.Rows.{digitOf, byteSaid, bytesSaid, Decoded, until, skip, fieldOf, numberFrom, longestFile, counted};
 use parts::byte;
 
 // Whether the line is a remark.
@@ -50,7 +49,7 @@ pub fn decode(hex: &[u8], out: &mut [u8]) -> usize
 
 // Whether each byte of a buffer is the one that the digits say, and `past` where they end.
 pub fn bytes_are(buf: &[u8], hex: &[u8], past: u8) -> bool
-    ensures { λ r. ⌜ r ≡ allBelow (length (now (buf .entry))) (λ i. eqb (byteAt (now (buf .entry)) i) (byteSaid (now (hex .entry)) i past)) ⌝ }
+    ensures { λ r. ⌜ r ≡ bytesSaid (now (buf .entry)) (now (hex .entry)) past ⌝ }
 {
     let mut i = 0;
     while i < buf.len() {
