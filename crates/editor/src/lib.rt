@@ -231,6 +231,20 @@ pub fn add_rule(s: Editor, literal: u8) -> Edited
     done(next)
 }
 
+// The records of the roles. Those behind the last role are of no role.
+pub fn role_records(s: Editor) -> [Role; 16]
+    ensures { λ r. ⌜ r ≡ s .table ⌝ }
+{
+    s.table
+}
+
+// How many roles there are.
+pub fn role_number(s: Editor) -> u8
+    ensures { λ r. ⌜ r ≡ s .count ⌝ }
+{
+    s.count
+}
+
 // Whether a role, entry 0 and a root are there.
 fn is_whole(count: u8, entries: u8, rooted: bool) -> bool
     ensures { λ r. ⌜ r ≡ (leb 1 count && (leb 1 entries && rooted)) ⌝ }

@@ -5,20 +5,20 @@
 mod rows;
 mod tally;
 
-ghost use mathlib.Core.Path.{_≡_};
-ghost use lib.ListN.{length};
 use libc::STDOUT_FILENO;
 use rows::check_row;
 use rows::claim_row;
 use rows::read_row;
 use rows::write_row;
 use tally::Answer;
-use tally::count;
 use tally::expected;
 use tally::print_answer;
 use tally::print_counts;
 use tally::same;
+use tally::slot;
+use vector_rows::count;
 use vector_rows::field;
+use vector_rows::file_space;
 use vector_rows::is_remark;
 use vector_rows::mark_from;
 
@@ -63,7 +63,7 @@ fn run_line(kind: Kind, line: &[u8], counts: &mut [u64]) {
     }
     let got = answer_to(kind, line);
     if same(got, expected_of(kind, line)) {
-        count(counts, got);
+        count(counts, slot(got));
     } else {
         print_other(got, line);
     }
@@ -76,13 +76,6 @@ fn run(kind: Kind, all: &[u8], counts: &mut [u64]) {
         run_line(kind, &all[at..end], counts);
         at = end + 1;
     }
-}
-
-// Space for the longest data file. The `ensures` gives the length, which lending the array needs.
-fn file_space() -> [u8; 1048576]
-    ensures { λ r. ⌜ 1048576 ≡ length r ⌝ }
-{
-    [0; 1048576]
 }
 
 fn run_file(name: &[u8], kind: Kind) {

@@ -14,10 +14,11 @@ use line_writer::write_interpretation;
 use report::description_part;
 use report::evidence_part;
 use report::input_space;
-use vector_rows::byte_said;
+use vector_rows::bytes_are;
 use vector_rows::decode;
 use vector_rows::field;
 use vector_rows::number;
+use vector_rows::small_number;
 use verdict::check_evidence;
 
 // Each byte of a buffer before the writer is called.
@@ -31,16 +32,12 @@ pub(crate) fn check_row(line: &[u8]) -> Answer {
     of_verdict(check_evidence(description_part(input), evidence_part(input)))
 }
 
-fn literal(digits: &[u8]) -> u8 {
-    (number(digits) % 256) as u8
-}
-
 // A row of claims: a description, the numbers of C and D, and two pieces of evidence.
 pub(crate) fn claim_row(line: &[u8]) -> Answer {
     let mut description = [0; 512];
     let n = decode(field(line, 0, b'\t'), &mut description);
-    let c = literal(field(line, 1, b'\t'));
-    let d = literal(field(line, 2, b'\t'));
+    let c = small_number(field(line, 1, b'\t'));
+    let d = small_number(field(line, 2, b'\t'));
     let mut first = input_space();
     let m = decode(field(line, 3, b'\t'), &mut first);
     // A second piece is a graph, of 11,522 bytes at most, or refused by its head.
@@ -58,18 +55,6 @@ pub(crate) fn read_row(line: &[u8]) -> Answer {
     of_reading(read_interpretation(&description[..n], &space[..m]))
 }
 
-// Whether each byte is the one that the digits say, and past them the one that stood there before.
-fn bytes_are(buf: &[u8], hex: &[u8]) -> bool {
-    let mut i = 0;
-    while i < buf.len() {
-        if buf[i] != byte_said(hex, i, UNWRITTEN) {
-            return false;
-        }
-        i += 1;
-    }
-    true
-}
-
 // Whether the first `n` bytes read as a model.
 fn holds(d: &[u8], buf: &[u8], n: usize) -> bool {
     if buf.len() < n {
@@ -84,7 +69,7 @@ fn judge(got: Answer, d: &[u8], buf: &[u8], text: &[u8]) -> Answer {
     if !same(got, expected(text)) {
         return got;
     }
-    if !bytes_are(buf, line_digits(text)) {
+    if !bytes_are(buf, line_digits(text), UNWRITTEN) {
         return told(b'O', got.number, got.place);
     }
     if (got.word == b'L') & !holds(d, buf, got.number) {

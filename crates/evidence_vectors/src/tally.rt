@@ -138,21 +138,11 @@ pub(crate) fn print_answer(a: Answer) {
 }
 
 // Where an answer is counted: by its letter, or by its number if it is a refusal.
-fn slot(a: Answer) -> usize {
+pub(crate) fn slot(a: Answer) -> usize {
     if a.word == b'R' {
         32 + a.number % 32
     } else {
         (a.word % 32) as usize
-    }
-}
-
-// One more of an answer, up to a million, which no file has.
-pub(crate) fn count(counts: &mut [u64], a: Answer) {
-    let k = slot(a);
-    if k < counts.len() {
-        if counts[k] < 1000000 {
-            counts[k] += 1;
-        }
     }
 }
 

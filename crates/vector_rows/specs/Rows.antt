@@ -1,15 +1,16 @@
 -- Rows of vectors: what digits say, and the fields that a mark ends.
 use Prim.Native.Nat.{ℕ, zero, suc, _+_, _-_, _*_, _/_, _%_, _≤_, _<_, min}
 use mathlib.Core.Path.{_≡_, refl, sym, _∙_, ap}
-use mathlib.Core.Bool.{Bool, true, false, cond}
+use mathlib.Core.Bool.{Bool, true, false, cond, _&&_}
 use mathlib.Core.Logic.{_⊎_, inl, inr}
 use mathlib.Core.List.{List, [], _∷_}
 use native.Mathlib.Omega.{arith}
 use native.Mathlib.Numerals.{add-one}
 use borrow.Author.Tests.{eq-eqb, ne-eqb, lt-ltb, le-ltb}
 use lib.Dec.{eqb, ltb}
-use lib.ListN.{length, take, drop, drop-of-length-le}
+use lib.ListN.{length, getD, set, take, drop, drop-of-length-le}
 use lib.Seq.{length-take-le, drop-cons, drop-drop}
+use Rattle.logic.specs.Bounded.{allBelow}
 use Rattle.parts.specs.Numbers.{byteAt}
 use Rattle.parts.specs.Filling.{Filled}
 
@@ -22,6 +23,10 @@ digitOf c = cond (ltb c 58) (c % 16) ((c % 16 + 9) % 16)
 unfoldable pub byteSaid : List ℕ → ℕ → ℕ → ℕ
 byteSaid hex i past = cond (ltb i (length hex / 2)) (16 * digitOf (byteAt hex (2 * i)) + digitOf (byteAt hex (2 * i + 1))) past
 
+-- whether each byte of a buffer is the one that the digits say, and `past` where they end
+abbrev pub bytesSaid : List ℕ → List ℕ → ℕ → Bool
+bytesSaid buf hex past = allBelow (length buf) (λ i. eqb (byteAt buf i) (byteSaid hex i past))
+
 -- the first n bytes of a buffer are those that the digits say, and n is as many as fit
 pub record Decoded (hex old new : List ℕ) (n : ℕ) : Type 0 where
   pub count : n ≡ min (length hex / 2) (length old)
@@ -32,6 +37,15 @@ pub record Decoded (hex old new : List ℕ) (n : ℕ) : Type 0 where
 unfoldable pub numberFrom : ℕ → List ℕ → ℕ
 numberFrom n [] = n
 numberFrom n (c ∷ cs) = numberFrom ((10 * n + c % 16) % 65536) cs
+
+-- ---- files
+-- the bytes of the longest data file, and more
+abbrev pub longestFile : ℕ
+longestFile = 1048576
+
+-- one more at place k of the counts, if it is there and not yet a million
+unfoldable pub counted : List ℕ → ℕ → List ℕ
+counted ns k = cond (ltb k (length ns) && ltb (getD ns k 0) 1000000) (set ns k (getD ns k 0 + 1)) ns
 
 -- ---- fields
 -- what stands before the first mark
@@ -66,6 +80,18 @@ decoded hex old new n h k e f = record {
   filled = f;
   part = sym (length-take-le n new (omega (arith, f .size)));
 }
+
+pub counted-more : (ns : List ℕ) (k : ℕ) → k < length ns → getD ns k 0 < 1000000 → set ns k (getD ns k 0 + 1) ≡ counted ns k
+unfolding counted
+counted-more ns k h g = rw (lt-ltb _ _ h, lt-ltb _ _ g) refl
+
+pub counted-full : (ns : List ℕ) (k : ℕ) → k < length ns → 1000000 ≤ getD ns k 0 → ns ≡ counted ns k
+unfolding counted
+counted-full ns k h g = rw (lt-ltb _ _ h, le-ltb _ _ g) refl
+
+pub counted-past : (ns : List ℕ) (k : ℕ) → length ns ≤ k → ns ≡ counted ns k
+unfolding counted
+counted-past ns k h = rw (le-ltb _ _ h) refl
 
 pub number-more : (ds : List ℕ) (n i : ℕ) → i < length ds → numberFrom n (drop i ds) ≡ numberFrom ((10 * n + byteAt ds i % 16) % 65536) (drop (i + 1) ds)
 unfolding numberFrom

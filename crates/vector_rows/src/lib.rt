@@ -1,10 +1,10 @@
 // Rows of vectors: lines and fields that end at a mark, bytes in hexadecimal digits, numbers in decimal ones.
 ghost use mathlib.Core.Path.{_≡_};
-ghost use Prim.Native.Nat.{_+_, _<_, _≤_, max};
+ghost use Prim.Native.Nat.{_+_, _%_, _<_, _≤_, max};
 ghost use lib.Dec.{eqb};
-ghost use lib.ListN.{length, drop};
+ghost use lib.ListN.{length, drop, replicate};
 ghost use Rattle.parts.specs.Numbers.{byteAt};
-ghost use Rattle.vector_rows.specs.Rows.{digitOf, byteSaid, Decoded, until, skip, fieldOf, numberFrom};
+ghost use Rattle.vector_rows.specs.Rows.{digitOf, byteSaid, bytesSaid, Decoded, until, skip, fieldOf, numberFrom, longestFile, counted};
 use parts::byte;
 
 // Whether the line is a remark.
@@ -47,6 +47,20 @@ pub fn decode(hex: &[u8], out: &mut [u8]) -> usize
     i
 }
 
+// Whether each byte of a buffer is the one that the digits say, and `past` where they end.
+pub fn bytes_are(buf: &[u8], hex: &[u8], past: u8) -> bool
+    ensures { λ r. ⌜ r ≡ bytesSaid (now (buf .entry)) (now (hex .entry)) past ⌝ }
+{
+    let mut i = 0;
+    while i < buf.len() {
+        if buf[i] != byte_said(hex, i, past) {
+            return false;
+        }
+        i += 1;
+    }
+    true
+}
+
 // The number that the digits say, below 65,536.
 pub fn number(digits: &[u8]) -> usize
     ensures { λ r. ⌜ r ≡ numberFrom 0 (now (digits .entry)) ⌝ }
@@ -59,6 +73,13 @@ pub fn number(digits: &[u8]) -> usize
         i += 1;
     }
     n
+}
+
+// The number that the digits say, below 256.
+pub fn small_number(digits: &[u8]) -> u8
+    ensures { λ r. ⌜ r ≡ numberFrom 0 (now (digits .entry)) % 256 ⌝ }
+{
+    (number(digits) % 256) as u8
 }
 
 // Where the mark stands first from `from` on, or the end.
@@ -99,4 +120,23 @@ pub fn field(line: &[u8], k: usize, mark: u8) -> &[u8]
     let at = field_start(line, k, mark);
     let end = mark_from(line, at, mark);
     &line[at..end]
+}
+
+// Zeros: space for the longest data file. The clause `size` gives the length, which lending the array needs.
+pub fn file_space() -> [u8; 1048576]
+    ensures zeros { λ r. ⌜ r ≡ replicate longestFile 0 ⌝ }
+    ensures size { λ r. ⌜ longestFile ≡ length r ⌝ }
+{
+    [0; 1048576]
+}
+
+// One more at place `k`, up to a million, which no file has.
+pub fn count(counts: &mut [u64], k: usize)
+    ensures { λ _. ⌜ now (counts .exit) ≡ counted (now (counts .entry)) k ⌝ }
+{
+    if k < counts.len() {
+        if counts[k] < 1000000 {
+            counts[k] += 1;
+        }
+    }
 }
