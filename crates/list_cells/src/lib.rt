@@ -42,8 +42,8 @@ use rows::row_at;
 use tables::EntryNo;
 use tables::Fields;
 use tables::RoleNo;
-use tables::fields_at;
 use tables::entry_count;
+use tables::fields_at;
 
 // The label with the literal `l`, if that is asked.
 fn put_if(x: Label, l: u8, asked: bool) -> Label
