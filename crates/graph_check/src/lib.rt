@@ -60,7 +60,7 @@ fn need_of(first: Label, later: Label, i: u8) -> Label
 // Rules 11 to 15 of record `i`, which is to have `need`, whose label is `x` and whose edges are `es`, in a graph of `n` records, with the
 // ancestors of each of so many roles and the table of sources.
 fn test_node(
-    a: &[u16; 16],
+    a: [u16; 16],
     roles: u8,
     cs: &[u8],
     src: &[u64; MOST_ENTRIES as usize],
@@ -72,7 +72,7 @@ fn test_node(
     es: &[u8],
     f: Layout,
 ) -> Tested
-    ensures { λ r. ⌜ refusalOf r ≡ refuse i (nodeWith (now (a .entry)) roles (now (cs .entry)) (now (src .entry)) (valueOf need) (labelOf f (now (s .entry))) n (valueOf x) (now (es .entry))) none ⌝ }
+    ensures { λ r. ⌜ refusalOf r ≡ refuse i (nodeWith a roles (now (cs .entry)) (now (src .entry)) (valueOf need) (labelOf f (now (s .entry))) n (valueOf x) (now (es .entry))) none ⌝ }
 {
     if !label_ok(cs, x, need) {
         return Tested::Refused(11, i);
@@ -88,7 +88,7 @@ fn test_node(
 
 // The same, with the record read.
 fn test_record(
-    a: &[u16; 16],
+    a: [u16; 16],
     roles: u8,
     cs: &[u8],
     src: &[u64; MOST_ENTRIES as usize],
@@ -98,7 +98,7 @@ fn test_record(
     i: u8,
     f: Layout,
 ) -> Tested
-    ensures { λ r. ⌜ refusalOf r ≡ refuse i (recordWith (now (a .entry)) roles (now (cs .entry)) (now (src .entry)) (valueOf need) f (now (s .entry)) n i) none ⌝ }
+    ensures { λ r. ⌜ refusalOf r ≡ refuse i (recordWith a roles (now (cs .entry)) (now (src .entry)) (valueOf need) f (now (s .entry)) n i) none ⌝ }
 {
     test_node(
         a,
@@ -135,7 +135,7 @@ fn test_records(
     let later = required(qs, empty());
     let mut i: u8 = 0;
     while i < n {
-        let tested = test_record(&a, roles, cs, &src, need_of(first, later, i), s, n, i, f);
+        let tested = test_record(a, roles, cs, &src, need_of(first, later, i), s, n, i, f);
         let Tested::Fine = tested else {
             return tested;
         };

@@ -14,7 +14,7 @@ use lib.Dec.{eqb, leb, ltb}
 use lib.ListN.{length, getD, set, length-set}
 use lib.Seq.{getD-set-same, getD-set-other}
 use Rattle.logic.specs.Tests.{So, _⇒_, so-and, and-l, and-r, or-l, or-r, or-cases, so-ltb, ltb-so, imp-in, imp-out, same-test, decide, so-eqb, eqb↔, reading}
-use Rattle.logic.specs.Bounded.{allBelow, anyBelow, all-intro, all-elim, all-cong, any-cong}
+use Rattle.logic.specs.Bounded.{allBelow, anyBelow, all-intro, all-elim, all-cong, any-cong, any-intro}
 use Rattle.logic.specs.Sets.{has, within, with, setOf}
 use Rattle.logic.specs.SetLaws.{has-setOf, setOf↔, setOf-cong, set-ext, within↔, with↔, no-member, single-word}
 use Rattle.words.specs.Words.{putIn}
@@ -199,6 +199,23 @@ module _ (cs : List ℕ) where
     where
       go : (x : Entry) → ifEvery (λ r l. within (belowIn t n r) (getD held (code l % 128) 0)) x ≡ ifEvery (λ r l. allThere cs (belowIn t n r) (code l)) x
       go (every r l) = ap (within (belowIn t n r)) (f (code l % 128) (omega arith))
+      go top = refl
+      go name = refl
+      go (both a b) = refl
+      go (atLeast r l k) = refl
+
+  -- where no role is transitive, nothing is asked for
+  pub none-asked : (t : List Role) (n : ℕ) → anyBelow n (λ i. eqb (roleAt t i .transitive) 1) ≡ false → allBelow (entryCount cs) (everyAt cs t n) ≡ true
+  unfolding ifEvery
+  none-asked t n e = all-intro (entryCount cs) (everyAt cs t n) (λ f _. go (entryOfFields (fieldsAt cs f)))
+    where
+      nothing : (r l : ℕ) → So (allThere cs (belowIn t n r) l)
+      nothing r l = within↔ (belowIn t n r) (everysIn cs (l % 128)) .1 (λ i u. absurd (false≢true (sym e
+          ∙ let w = setOf↔ n (λ i. belowIs (roleAt t i) r) i .0 u in
+          any-intro n (λ i. eqb (roleAt t i .transitive) 1) i (w .0) (and-l (eqb (roleAt t i .transitive) 1) _ (w .1)))))
+
+      go : (x : Entry) → So (ifEvery (λ r l. allThere cs (belowIn t n r) (code l)) x)
+      go (every r l) = nothing r (code l)
       go top = refl
       go name = refl
       go (both a b) = refl

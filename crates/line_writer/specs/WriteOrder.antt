@@ -81,14 +81,14 @@ module _ (t : ℕ) (cs : List ℕ) (f : Layout) (s a old : List ℕ) (size : ℕ
   too-short h g = let z : sizeIn f s ≤ mostElements = omega arith in let y : length old < lengthIn f (sizeIn f s) = rw e at g in
       rw (le-leb _ _ z, lt-leb _ _ y) (record { says = refl; long = refl; after = refl })
 
-  pub laid-out : (new : List ℕ) (n k len x : ℕ) (b : List ℕ) → x ≡ t → b ≡ a → n ≡ recordCount s → k ≡ copiesIn f s n → k < 256 → len ≡ lengthIn f size
+  pub laid-out : (new : List ℕ) (n k len : ℕ) → n ≡ recordCount s → k ≡ copiesIn f s n → k < 256 → len ≡ lengthIn f size
       → size ≤ mostElements → len ≤ length old
-      → LaidLine x cs f s b (k % 256) (size % 256) old new → Told t cs f s a old new (Line len) (roomIn f s (length old))
-  laid-out new n k len x b tx ab p q few r h g L = let z : sizeIn f s ≤ mostElements = omega arith in
+      → LaidLine t cs f s a (k % 256) (size % 256) old new → Told t cs f s a old new (Line len) (roomIn f s (length old))
+  laid-out new n k len p q few r h g L = let z : sizeIn f s ≤ mostElements = omega arith in
       let y : lengthIn f (sizeIn f s) ≤ length old = rw (r, e) at g in
       let u : k % 256 ≡ copiesIn f s (recordCount s) = mod-eq-of-lt few ∙ q ∙ ap (copiesIn f s) p in
       let v : size % 256 ≡ sizeIn f s = mod-eq-of-lt (let w : size < 256 = omega arith in w) ∙ e in
-      rw (le-leb _ _ z, le-leb _ _ y) (record { says = refl; long = r ∙ ap (lengthIn f) e; after = rw (u, v, tx, ab) at L })
+      rw (le-leb _ _ z, le-leb _ _ y) (record { says = refl; long = r ∙ ap (lengthIn f) e; after = rw (u, v) at L })
 
 -- of evidence that is stored as for the part cs
 abbrev pub ToldOf : ℕ → List ℕ → List ℕ → List ℕ → List ℕ → List ℕ → Written → Type 0
@@ -107,9 +107,9 @@ module _ (R : List Role) (m : ℕ) (cs qs s old : List ℕ) where
   pub graph-stops : (n i : ℕ) → some (record { number = n; place = i }) ≡ graphCode R m cs qs (rootSet qs) s → OpenedTold R m cs qs s old old (Refused n i)
   graph-stops n i e = rw (← e) (record { says = refl; long = refl; after = refl })
 
-  pub graph-on : none ≡ graphCode R m cs qs (rootSet qs) s → (new : List ℕ) (r : Written) → ToldOf (transitivesIn R m) cs s (ancestorsIn R) old new r
-      → OpenedTold R m cs qs s old new r
-  graph-on e new r T = rw (← e) T
+  pub graph-on : none ≡ graphCode R m cs qs (rootSet qs) s → (t : ℕ) (a new : List ℕ) (r : Written) → t ≡ transitivesIn R m → a ≡ ancestorsIn R
+      → ToldOf t cs s a old new r → OpenedTold R m cs qs s old new r
+  graph-on e t a new r p q T = rw (← e, ← p, ← q) T
 
   pub some-record : none ≡ graphCode R m cs qs (rootSet qs) s → 1 ≤ recordCount s
   unfolding graphCode

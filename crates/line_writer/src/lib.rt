@@ -6,7 +6,6 @@ ghost use Rattle.labels.specs.Labels.{mostEntries, wide, nameBytes, valueOf};
 ghost use lib.Dec.{eqb, ltb};
 ghost use lib.ListN.{length};
 ghost use Rattle.words.specs.Words.{putIn};
-ghost use Rattle.roles.specs.Records.{ancestorsIn};
 ghost use Rattle.answers.specs.Answers.{ofWritten, lengthOf};
 ghost use Rattle.lines.specs.Lines.{mostElements, nameAt, lineLength};
 ghost use Rattle.lines.specs.Laying.{Masks, Names};
@@ -205,10 +204,10 @@ fn line_length(size: usize, broad: bool) -> usize
     rows_at(size, broad) + 2 * (size * size)
 }
 
-// 21, 22, and then the line, for a graph that keeps the rules.
-fn write_kept(buf: &mut [u8], t: [Role; 16], roles: u8, cs: &[u8], s: &[u8]) -> Written
+// 21, 22, and then the line, for a graph that keeps the rules, with the transitive roles `t` and the ancestors `a` of each role.
+fn write_kept(buf: &mut [u8], t: u16, a: [u16; 16], cs: &[u8], s: &[u8]) -> Written
     requires { ⌜ 1 ≤ recordCount (now s) ⌝ }
-    ensures { λ r. ⌜ ToldOf (transitivesIn t roles) (now (cs .entry)) (now (s .entry)) (ancestorsIn t) (now (buf .entry)) (now (buf .exit)) r ⌝ }
+    ensures { λ r. ⌜ ToldOf t (now (cs .entry)) (now (s .entry)) a (now (buf .entry)) (now (buf .exit)) r ⌝ }
 {
     let f = layout_of(cs);
     let n = byte(s, 1);
@@ -221,9 +220,7 @@ fn write_kept(buf: &mut [u8], t: [Role; 16], roles: u8, cs: &[u8], s: &[u8]) -> 
     if buf.len() < len {
         return Written::Refused(22, 0);
     }
-    let up = transitive_roles(t, roles);
-    let a = ancestors_of(t);
-    lay_line(buf, up, a, cs, s, (size % 256) as u8, (k % 256) as u8, f);
+    lay_line(buf, t, a, cs, s, (size % 256) as u8, (k % 256) as u8, f);
     Written::Line(len)
 }
 
@@ -233,7 +230,7 @@ fn write_opened(buf: &mut [u8], t: [Role; 16], roles: u8, cs: &[u8], qs: &[u8], 
 {
     let tested = test_sample(t, roles, cs, qs, s);
     match tested {
-        Tested::Fine => write_kept(buf, t, roles, cs, s),
+        Tested::Fine => write_kept(buf, transitive_roles(t, roles), ancestors_of(t), cs, s),
         Tested::Refused(n, i) => Written::Refused(n, i),
     }
 }

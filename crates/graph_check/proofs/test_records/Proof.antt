@@ -56,7 +56,7 @@ enum-told-2 : tie.Need-enum-told-2 Inv-loop μ-loop
 enum-told-2 c = search needs
 
 returns : tie.Need-returns Inv-loop μ-loop
-returns c = ap refusalOf (c .enum-told2 .given .1) ∙ sym (records-stop _ _ _ (c .before .before .before .before .before .before .before .loop .i) _ (omega arith) (sym (ap (λ K. refuse (c .before .before .before .before .before .before .before .loop .i) (recordWith (c .before .before .before .before .before .before .before .before .before .before .before .before .ancestors-of .result) (c .before .before .before .before .before .before .before .before .before .before .before .before .before .before .before .before .args .roles) (c .before .before .before .before .before .before .before .before .before .before .before .before .before .before .before .before .args .cs .now) (c .before .before .before .before .before .before .before .before .before .before .before .sources .result) K (c .before .before .before .before .before .before .before .before .before .before .before .before .before .before .before .before .args .f) (c .before .before .before .before .before .before .before .before .before .before .before .before .before .before .before .before .args .s .now) (c .before .before .before .before .before .before .before .before .before .before .before .before .before .before .before .before .args .n) (c .before .before .before .before .before .before .before .loop .i)) none) (c .before .before .before .need-of .ensures)) ∙ sym (c .before .before .test-record .ensures) ∙ ap refusalOf (c .enum-told2 .given .1))) ∙ c .before .before .before .before .before .before .before .loop .inv .2 ∙ records-with (c .before .before .before .before .before .before .before .before .before .before .before .before .before .before .before .before .args .t) _ (c .before .before .before .before .before .before .before .before .before .before .before .before .before .before .before .before .args .roles) (c .before .before .before .before .before .before .before .before .before .before .before .before .before .before .before .before .args .cs .now) (c .before .before .before .before .before .before .before .before .before .before .before .sources .result) _ _ (c .before .before .before .before .before .before .before .before .before .before .before .before .before .before .before .before .args .f) (c .before .before .before .before .before .before .before .before .before .before .before .before .before .before .before .before .args .s .now) (c .before .before .before .before .before .before .before .before .before .before .before .before .before .before .before .before .args .n) (c .before .before .before .before .before .before .before .before .before .before .before .before .ancestors-of .ensures) (c .before .before .before .before .before .before .before .before .before .before .before .sources .ensures) ∙ ap₂ (λ first later. refuseFrom (recordFor (c .before .before .before .before .before .before .before .before .before .before .before .before .before .before .before .before .args .t) (c .before .before .before .before .before .before .before .before .before .before .before .before .before .before .before .before .args .roles) (c .before .before .before .before .before .before .before .before .before .before .before .before .before .before .before .before .args .cs .now) first later (c .before .before .before .before .before .before .before .before .before .before .before .before .before .before .before .before .args .f) (c .before .before .before .before .before .before .before .before .before .before .before .before .before .before .before .before .args .s .now) (c .before .before .before .before .before .before .before .before .before .before .before .before .before .before .before .before .args .n)) (c .before .before .before .before .before .before .before .before .before .before .before .before .before .before .before .before .args .n) 0 none) (c .before .before .before .before .before .before .before .before .before .before .required .ensures) (c .before .before .before .before .before .before .before .before .required2 .ensures ∙ ap (requiredSet (c .before .before .before .before .before .before .before .before .before .before .before .before .before .before .before .before .args .qs .now)) (c .before .before .before .before .before .before .before .before .before .empty .ensures))
+returns c = ap refusalOf (c .enum-told2 .given .1) ∙ sym (records-stop _ _ _ (c .before .before .before .before .before .before .loop .i) _ (omega arith) (sym (ap (λ K. refuse (c .before .before .before .before .before .before .loop .i) (recordWith (c .before .before .before .before .before .before .before .before .before .before .before .ancestors-of .result) (c .before .before .before .before .before .before .before .before .before .before .before .before .before .before .before .args .roles) (c .before .before .before .before .before .before .before .before .before .before .before .before .before .before .before .args .cs .now) (c .before .before .before .before .before .before .before .before .before .before .sources .result) K (c .before .before .before .before .before .before .before .before .before .before .before .before .before .before .before .args .f) (c .before .before .before .before .before .before .before .before .before .before .before .before .before .before .before .args .s .now) (c .before .before .before .before .before .before .before .before .before .before .before .before .before .before .before .args .n) (c .before .before .before .before .before .before .loop .i)) none) (c .before .before .before .need-of .ensures)) ∙ sym (c .before .before .test-record .ensures) ∙ ap refusalOf (c .enum-told2 .given .1))) ∙ c .before .before .before .before .before .before .loop .inv .2 ∙ records-with (c .before .before .before .before .before .before .before .before .before .before .before .before .before .before .before .args .t) _ (c .before .before .before .before .before .before .before .before .before .before .before .before .before .before .before .args .roles) (c .before .before .before .before .before .before .before .before .before .before .before .before .before .before .before .args .cs .now) (c .before .before .before .before .before .before .before .before .before .before .sources .result) _ _ (c .before .before .before .before .before .before .before .before .before .before .before .before .before .before .before .args .f) (c .before .before .before .before .before .before .before .before .before .before .before .before .before .before .before .args .s .now) (c .before .before .before .before .before .before .before .before .before .before .before .before .before .before .before .args .n) (c .before .before .before .before .before .before .before .before .before .before .before .ancestors-of .ensures) (c .before .before .before .before .before .before .before .before .before .before .sources .ensures) ∙ ap₂ (λ first later. refuseFrom (recordFor (c .before .before .before .before .before .before .before .before .before .before .before .before .before .before .before .args .t) (c .before .before .before .before .before .before .before .before .before .before .before .before .before .before .before .args .roles) (c .before .before .before .before .before .before .before .before .before .before .before .before .before .before .before .args .cs .now) first later (c .before .before .before .before .before .before .before .before .before .before .before .before .before .before .before .args .f) (c .before .before .before .before .before .before .before .before .before .before .before .before .before .before .before .args .s .now) (c .before .before .before .before .before .before .before .before .before .before .before .before .before .before .before .args .n)) (c .before .before .before .before .before .before .before .before .before .before .before .before .before .before .before .args .n) 0 none) (c .before .before .before .before .before .before .before .before .before .required .ensures) (c .before .before .before .before .before .before .before .required2 .ensures ∙ ap (requiredSet (c .before .before .before .before .before .before .before .before .before .before .before .before .before .before .before .args .qs .now)) (c .before .before .before .before .before .before .before .before .empty .ensures))
 
 add-i : tie.Need-add-i Inv-loop μ-loop
 add-i c = omega arith
@@ -65,7 +65,7 @@ loop-less : tie.Need-loop-less Inv-loop μ-loop
 loop-less c = omega arith
 
 loop-again : tie.Need-loop-again Inv-loop μ-loop
-loop-again c = (omega arith, c .before .before .before .before .before .before .before .loop .inv .1, sym (records-on _ _ _ (c .before .before .before .before .before .before .before .loop .i) (omega arith) (sym (ap (λ K. refuse (c .before .before .before .before .before .before .before .loop .i) (recordWith (c .before .before .before .before .before .before .before .before .before .before .before .before .ancestors-of .result) (c .before .before .before .before .before .before .before .before .before .before .before .before .before .before .before .before .args .roles) (c .before .before .before .before .before .before .before .before .before .before .before .before .before .before .before .before .args .cs .now) (c .before .before .before .before .before .before .before .before .before .before .before .sources .result) K (c .before .before .before .before .before .before .before .before .before .before .before .before .before .before .before .before .args .f) (c .before .before .before .before .before .before .before .before .before .before .before .before .before .before .before .before .args .s .now) (c .before .before .before .before .before .before .before .before .before .before .before .before .before .before .before .before .args .n) (c .before .before .before .before .before .before .before .loop .i)) none) (c .before .before .before .need-of .ensures)) ∙ sym (c .before .before .test-record .ensures) ∙ ap refusalOf (c .enum-told .given .1))) ∙ c .before .before .before .before .before .before .before .loop .inv .2)
+loop-again c = (omega arith, c .before .before .before .before .before .before .loop .inv .1, sym (records-on _ _ _ (c .before .before .before .before .before .before .loop .i) (omega arith) (sym (ap (λ K. refuse (c .before .before .before .before .before .before .loop .i) (recordWith (c .before .before .before .before .before .before .before .before .before .before .before .ancestors-of .result) (c .before .before .before .before .before .before .before .before .before .before .before .before .before .before .before .args .roles) (c .before .before .before .before .before .before .before .before .before .before .before .before .before .before .before .args .cs .now) (c .before .before .before .before .before .before .before .before .before .before .sources .result) K (c .before .before .before .before .before .before .before .before .before .before .before .before .before .before .before .args .f) (c .before .before .before .before .before .before .before .before .before .before .before .before .before .before .before .args .s .now) (c .before .before .before .before .before .before .before .before .before .before .before .before .before .before .before .args .n) (c .before .before .before .before .before .before .loop .i)) none) (c .before .before .before .need-of .ensures)) ∙ sym (c .before .before .test-record .ensures) ∙ ap refusalOf (c .enum-told .given .1))) ∙ c .before .before .before .before .before .before .loop .inv .2)
 
 returns-2 : tie.Need-returns-2 Inv-loop μ-loop
 returns-2 c = sym (records-end _ _ _ (c .before .loop .i) (omega arith)) ∙ c .before .loop .inv .2 ∙ records-with (c .before .before .before .before .before .before .before .before .before .before .args .t) _ (c .before .before .before .before .before .before .before .before .before .before .args .roles) (c .before .before .before .before .before .before .before .before .before .before .args .cs .now) (c .before .before .before .before .before .sources .result) _ _ (c .before .before .before .before .before .before .before .before .before .before .args .f) (c .before .before .before .before .before .before .before .before .before .before .args .s .now) (c .before .before .before .before .before .before .before .before .before .before .args .n) (c .before .before .before .before .before .before .ancestors-of .ensures) (c .before .before .before .before .before .sources .ensures) ∙ ap₂ (λ first later. refuseFrom (recordFor (c .before .before .before .before .before .before .before .before .before .before .args .t) (c .before .before .before .before .before .before .before .before .before .before .args .roles) (c .before .before .before .before .before .before .before .before .before .before .args .cs .now) first later (c .before .before .before .before .before .before .before .before .before .before .args .f) (c .before .before .before .before .before .before .before .before .before .before .args .s .now) (c .before .before .before .before .before .before .before .before .before .before .args .n)) (c .before .before .before .before .before .before .before .before .before .before .args .n) 0 none) (c .before .before .before .before .required .ensures) (c .before .before .required2 .ensures ∙ ap (requiredSet (c .before .before .before .before .before .before .before .before .before .before .args .qs .now)) (c .before .before .before .empty .ensures))

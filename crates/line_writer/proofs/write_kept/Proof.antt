@@ -1,8 +1,6 @@
 use Prim.Native.Nat.{_%_}
 use native.Mathlib.Nat.{mod-eq-of-lt}
 use mathlib.Core.Path.{_≡_, ap}
-use Rattle.roles.specs.Records.{ancestorsIn}
-use Rattle.line_writer.specs.WriteSteps.{transitivesIn}
 use Rattle.line_writer.specs.WriteOrder.{size-read, some-copy, copies-few, told-of, too-big, too-short, laid-out}
 use native.Mathlib.Omega.{arith}
 use borrow.Author.Needs.{needs}
@@ -15,9 +13,7 @@ use Rattle.evidence.proofs.layout_of.Reads as layout-of-reads
 use Rattle.line_writer.proofs.element_count.Reads as element-count-reads
 use Rattle.line_writer.proofs.lay_line.Reads as lay-line-reads
 use Rattle.line_writer.proofs.line_length.Reads as line-length-reads
-use Rattle.line_writer.proofs.transitive_roles.Reads as transitive-roles-reads
 use Rattle.parts.proofs.byte.Reads as byte-reads
-use Rattle.roles.proofs.ancestors_of.Reads as ancestors-of-reads
 
 layout-of-requires : tie.Need-layout-of-requires
 layout-of-requires c κs = search needs
@@ -32,19 +28,13 @@ element-count-requires : tie.Need-element-count-requires
 element-count-requires c κs = search needs
 
 returns : tie.Need-returns
-returns c = told-of (transitivesIn (c .before .before .before .before .before .before .before .before .args .t) (c .before .before .before .before .before .before .before .before .args .roles)) (c .before .before .before .before .before .before .before .before .args .cs .now) (c .before .before .before .before .layout-of .result) (c .before .before .before .before .before .before .before .before .args .s .now) (ancestorsIn (c .before .before .before .before .before .before .before .before .args .t)) (c .before .before .before .before .before .before .before .before .args .buf .now) _ _ (c .before .before .before .before .layout-of .ensures) (too-big (transitivesIn (c .before .before .before .before .before .before .before .before .args .t) (c .before .before .before .before .before .before .before .before .args .roles)) (c .before .before .before .before .before .before .before .before .args .cs .now) (c .before .before .before .before .layout-of .result) (c .before .before .before .before .before .before .before .before .args .s .now) (ancestorsIn (c .before .before .before .before .before .before .before .before .args .t)) (c .before .before .before .before .before .before .before .before .args .buf .now) _ (size-read (c .before .before .before .before .layout-of .result) (c .before .before .before .before .before .before .before .before .args .s .now) _ _ _ (c .before .before .before .byte .ensures) (c .before .before .most-copies .ensures .0) (c .before .element-count .ensures)) (omega arith))
+returns c = told-of (c .before .before .before .before .before .before .before .before .args .t) (c .before .before .before .before .before .before .before .before .args .cs .now) (c .before .before .before .before .layout-of .result) (c .before .before .before .before .before .before .before .before .args .s .now) (c .before .before .before .before .before .before .before .before .args .a) (c .before .before .before .before .before .before .before .before .args .buf .now) _ _ (c .before .before .before .before .layout-of .ensures) (too-big (c .before .before .before .before .before .before .before .before .args .t) (c .before .before .before .before .before .before .before .before .args .cs .now) (c .before .before .before .before .layout-of .result) (c .before .before .before .before .before .before .before .before .args .s .now) (c .before .before .before .before .before .before .before .before .args .a) (c .before .before .before .before .before .before .before .before .args .buf .now) _ (size-read (c .before .before .before .before .layout-of .result) (c .before .before .before .before .before .before .before .before .args .s .now) _ _ _ (c .before .before .before .byte .ensures) (c .before .before .most-copies .ensures .0) (c .before .element-count .ensures)) (omega arith))
 
 line-length-requires : tie.Need-line-length-requires
 line-length-requires c κs = search needs
 
 returns-2 : tie.Need-returns-2
-returns-2 c = told-of (transitivesIn (c .before .before .before .before .before .before .before .before .before .before .args .t) (c .before .before .before .before .before .before .before .before .before .before .args .roles)) (c .before .before .before .before .before .before .before .before .before .before .args .cs .now) (c .before .before .before .before .before .before .layout-of .result) (c .before .before .before .before .before .before .before .before .before .before .args .s .now) (ancestorsIn (c .before .before .before .before .before .before .before .before .before .before .args .t)) (c .before .before .before .before .before .before .before .before .before .before .args .buf .now) _ _ (c .before .before .before .before .before .before .layout-of .ensures) (too-short (transitivesIn (c .before .before .before .before .before .before .before .before .before .before .args .t) (c .before .before .before .before .before .before .before .before .before .before .args .roles)) (c .before .before .before .before .before .before .before .before .before .before .args .cs .now) (c .before .before .before .before .before .before .layout-of .result) (c .before .before .before .before .before .before .before .before .before .before .args .s .now) (ancestorsIn (c .before .before .before .before .before .before .before .before .before .before .args .t)) (c .before .before .before .before .before .before .before .before .before .before .args .buf .now) _ (size-read (c .before .before .before .before .before .before .layout-of .result) (c .before .before .before .before .before .before .before .before .before .before .args .s .now) _ _ _ (c .before .before .before .before .before .byte .ensures) (c .before .before .before .before .most-copies .ensures .0) (c .before .before .before .element-count .ensures)) (omega arith) (omega arith))
-
-transitive-roles-requires : tie.Need-transitive-roles-requires
-transitive-roles-requires c κs = search needs
-
-ancestors-of-requires : tie.Need-ancestors-of-requires
-ancestors-of-requires c κs = search needs
+returns-2 c = told-of (c .before .before .before .before .before .before .before .before .before .before .args .t) (c .before .before .before .before .before .before .before .before .before .before .args .cs .now) (c .before .before .before .before .before .before .layout-of .result) (c .before .before .before .before .before .before .before .before .before .before .args .s .now) (c .before .before .before .before .before .before .before .before .before .before .args .a) (c .before .before .before .before .before .before .before .before .before .before .args .buf .now) _ _ (c .before .before .before .before .before .before .layout-of .ensures) (too-short (c .before .before .before .before .before .before .before .before .before .before .args .t) (c .before .before .before .before .before .before .before .before .before .before .args .cs .now) (c .before .before .before .before .before .before .layout-of .result) (c .before .before .before .before .before .before .before .before .before .before .args .s .now) (c .before .before .before .before .before .before .before .before .before .before .args .a) (c .before .before .before .before .before .before .before .before .before .before .args .buf .now) _ (size-read (c .before .before .before .before .before .before .layout-of .result) (c .before .before .before .before .before .before .before .before .before .before .args .s .now) _ _ _ (c .before .before .before .before .before .byte .ensures) (c .before .before .before .before .most-copies .ensures .0) (c .before .before .before .element-count .ensures)) (omega arith) (omega arith))
 
 cast-lay-line : tie.Need-cast-lay-line
 cast-lay-line c = search needs
@@ -53,13 +43,13 @@ cast-lay-line-2 : tie.Need-cast-lay-line-2
 cast-lay-line-2 c = search needs
 
 lay-line-requires : tie.Need-lay-line-requires
-lay-line-requires c κs = let k = c .before .before .before .before .before .before .before .most-copies in let z = c .before .before .before .before .before .before .element-count in let v = copies-few (c .before .before .before .before .before .before .before .before .byte .result) (k .result) (z .result) (let b = c .before .before .before .before .before .before .before .before .byte .ensures in omega arith) (z .ensures) in let u = some-copy (c .before .before .before .before .before .before .before .before .before .layout-of .result) (c .before .before .before .before .before .before .before .before .before .before .before .before .before .args .s .now) _ (k .result) (k .ensures .0) in let x : k .result % 256 ≡ k .result = mod-eq-of-lt (omega arith) in let y : z .result % 256 ≡ z .result = mod-eq-of-lt (omega arith) in let l = c .before .before .before .before .line-length .ensures in rw (x, y) (u, omega arith, ap (λ g. g .wide) (c .before .before .before .before .before .before .before .before .before .layout-of .ensures))
+lay-line-requires c κs = let k = c .before .before .before .before .before .most-copies in let z = c .before .before .before .before .element-count in let v = copies-few (c .before .before .before .before .before .before .byte .result) (k .result) (z .result) (let b = c .before .before .before .before .before .before .byte .ensures in omega arith) (z .ensures) in let u = some-copy (c .before .before .before .before .before .before .before .layout-of .result) (c .before .before .before .before .before .before .before .before .before .before .before .args .s .now) _ (k .result) (k .ensures .0) in let x : k .result % 256 ≡ k .result = mod-eq-of-lt (omega arith) in let y : z .result % 256 ≡ z .result = mod-eq-of-lt (omega arith) in let l = c .before .before .line-length .ensures in rw (x, y) (u, omega arith, ap (λ g. g .wide) (c .before .before .before .before .before .before .before .layout-of .ensures))
 
 same-length : tie.Need-same-length
 same-length c = search needs
 
 returns-3 : tie.Need-returns-3
-returns-3 c = let k = c .before .before .before .before .before .before .before .before .before .before .most-copies in let z = c .before .before .before .before .before .before .before .before .before .element-count in let v = copies-few (c .before .before .before .before .before .before .before .before .before .before .before .byte .result) (k .result) (z .result) (let b = c .before .before .before .before .before .before .before .before .before .before .before .byte .ensures in omega arith) (z .ensures) in told-of (transitivesIn (c .before .before .before .before .before .before .before .before .before .before .before .before .before .before .before .before .args .t) (c .before .before .before .before .before .before .before .before .before .before .before .before .before .before .before .before .args .roles)) (c .before .before .before .before .before .before .before .before .before .before .before .before .before .before .before .before .args .cs .now) (c .before .before .before .before .before .before .before .before .before .before .before .before .layout-of .result) (c .before .before .before .before .before .before .before .before .before .before .before .before .before .before .before .before .args .s .now) (ancestorsIn (c .before .before .before .before .before .before .before .before .before .before .before .before .before .before .before .before .args .t)) (c .before .before .before .before .before .before .before .before .before .before .before .before .before .before .before .before .args .buf .now) _ _ (c .before .before .before .before .before .before .before .before .before .before .before .before .layout-of .ensures) (laid-out (transitivesIn (c .before .before .before .before .before .before .before .before .before .before .before .before .before .before .before .before .args .t) (c .before .before .before .before .before .before .before .before .before .before .before .before .before .before .before .before .args .roles)) (c .before .before .before .before .before .before .before .before .before .before .before .before .before .before .before .before .args .cs .now) (c .before .before .before .before .before .before .before .before .before .before .before .before .layout-of .result) (c .before .before .before .before .before .before .before .before .before .before .before .before .before .before .before .before .args .s .now) (ancestorsIn (c .before .before .before .before .before .before .before .before .before .before .before .before .before .before .before .before .args .t)) (c .before .before .before .before .before .before .before .before .before .before .before .before .before .before .before .before .args .buf .now) (z .result) (size-read (c .before .before .before .before .before .before .before .before .before .before .before .before .layout-of .result) (c .before .before .before .before .before .before .before .before .before .before .before .before .before .before .before .before .args .s .now) _ _ _ (c .before .before .before .before .before .before .before .before .before .before .before .byte .ensures) (c .before .before .before .before .before .before .before .before .before .before .most-copies .ensures .0) (c .before .before .before .before .before .before .before .before .before .element-count .ensures)) _ _ (k .result) (c .before .before .before .before .before .before .before .line-length .result) _ _ (c .before .before .before .before .before .transitive-roles .ensures) (c .before .before .before .before .ancestors-of .ensures) (c .before .before .before .before .before .before .before .before .before .before .before .byte .ensures) (k .ensures .0) (omega arith) (c .before .before .before .before .before .before .before .line-length .ensures) (omega arith) (omega arith) (c .before .before .lay-line .ensures))
+returns-3 c = let k = c .before .before .before .before .before .before .before .before .most-copies in let z = c .before .before .before .before .before .before .before .element-count in let v = copies-few (c .before .before .before .before .before .before .before .before .before .byte .result) (k .result) (z .result) (let b = c .before .before .before .before .before .before .before .before .before .byte .ensures in omega arith) (z .ensures) in told-of (c .before .before .before .before .before .before .before .before .before .before .before .before .before .before .args .t) (c .before .before .before .before .before .before .before .before .before .before .before .before .before .before .args .cs .now) (c .before .before .before .before .before .before .before .before .before .before .layout-of .result) (c .before .before .before .before .before .before .before .before .before .before .before .before .before .before .args .s .now) (c .before .before .before .before .before .before .before .before .before .before .before .before .before .before .args .a) (c .before .before .before .before .before .before .before .before .before .before .before .before .before .before .args .buf .now) _ _ (c .before .before .before .before .before .before .before .before .before .before .layout-of .ensures) (laid-out (c .before .before .before .before .before .before .before .before .before .before .before .before .before .before .args .t) (c .before .before .before .before .before .before .before .before .before .before .before .before .before .before .args .cs .now) (c .before .before .before .before .before .before .before .before .before .before .layout-of .result) (c .before .before .before .before .before .before .before .before .before .before .before .before .before .before .args .s .now) (c .before .before .before .before .before .before .before .before .before .before .before .before .before .before .args .a) (c .before .before .before .before .before .before .before .before .before .before .before .before .before .before .args .buf .now) (z .result) (size-read (c .before .before .before .before .before .before .before .before .before .before .layout-of .result) (c .before .before .before .before .before .before .before .before .before .before .before .before .before .before .args .s .now) _ _ _ (c .before .before .before .before .before .before .before .before .before .byte .ensures) (c .before .before .before .before .before .before .before .before .most-copies .ensures .0) (c .before .before .before .before .before .before .before .element-count .ensures)) _ _ (k .result) (c .before .before .before .before .before .line-length .result) (c .before .before .before .before .before .before .before .before .before .byte .ensures) (k .ensures .0) (omega arith) (c .before .before .before .before .before .line-length .ensures) (omega arith) (omega arith) (c .before .before .lay-line .ensures))
 
 pub write-kept-spec : {M : Type 1} → statement M
 write-kept-spec =
@@ -72,8 +62,6 @@ write-kept-spec =
     returns
     line-length-requires
     returns-2
-    transitive-roles-requires
-    ancestors-of-requires
     cast-lay-line
     cast-lay-line-2
     lay-line-requires

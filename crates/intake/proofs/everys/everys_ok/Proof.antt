@@ -1,69 +1,33 @@
-use Prim.Native.Nat.{_-_, _≤_}
-use mathlib.Core.Path.{_≡_, _∙_, sym}
-use mathlib.Core.Bool.{true}
-use borrow.Author.Tests.{not-true, not-false}
-use Rattle.logic.specs.Bounded.{allBelow, all-none, all-stop, all-more, all-done}
-use Rattle.intake.specs.Everys.{everyAt, every-with-is}
-use native.Mathlib.Omega.{arith}
+use mathlib.Core.Path.{_∙_, sym, ap}
+use lib.Dec.{eqb}
+use Rattle.logic.specs.Bounded.{allBelow, anyBelow}
+use Rattle.tables.specs.Tables.{entryCount}
+use Rattle.roles.specs.Records.{roleAt}
+use Rattle.intake.specs.Everys.{everyAt, none-asked}
 use borrow.Author.Needs.{needs}
 use Rattle.intake.proofs.everys.everys_ok.Statement.{statement}
 use Rattle.intake.proofs.everys.everys_ok.Tie as tie
 use Rattle.intake.proofs.everys.everys_ok.Reads as reads
 use Rattle.intake.proofs.everys.everys_ok.Lts as lts
-use Rattle.intake.proofs.everys.every_ok.Reads as every-ok-reads
-use Rattle.intake.proofs.everys.everys_of.Reads as everys-of-reads
+use Rattle.intake.proofs.everys.all_ok.Reads as all-ok-reads
+use Rattle.intake.proofs.everys.some_transitive.Reads as some-transitive-reads
 use Rattle.parts.proofs.up_to.Reads as up-to-reads
-use Rattle.tables.proofs.entry_count.Reads as entry-count-reads
 
-abbrev Inv-loop : tie.InvT-loop
-Inv-loop cs t n held k m e₀ e = (e ≤ m) × (k ≤ 16) × (allBelow e (everyAt cs t k) ≡ true)
-
-abbrev μ-loop : tie.MeasureT-loop
-μ-loop cs t n held k m e₀ e = m - e
-
-everys-of-requires : tie.Need-everys-of-requires Inv-loop μ-loop
-everys-of-requires c κs = search needs
-
-up-to-requires : tie.Need-up-to-requires Inv-loop μ-loop
+up-to-requires : tie.Need-up-to-requires
 up-to-requires c κs = search needs
 
-entry-count-requires : tie.Need-entry-count-requires Inv-loop μ-loop
-entry-count-requires c κs = search needs
+some-transitive-requires : tie.Need-some-transitive-requires
+some-transitive-requires c κs = search needs
 
-loop-holds : tie.Need-loop-holds Inv-loop μ-loop
-loop-holds c = (omega arith, c .before .up-to .ensures .1, all-none _)
+all-ok-requires : tie.Need-all-ok-requires
+all-ok-requires c κs = search needs
 
-every-ok-requires : tie.Need-every-ok-requires Inv-loop μ-loop
-every-ok-requires c κs = c .before .before .loop .inv .1
+returns : tie.Need-returns
+returns c = c .all-ok .ensures ∙ ap (λ n. allBelow (entryCount (c .before .before .before .before .before .args .cs .now)) (everyAt (c .before .before .before .before .before .args .cs .now) (c .before .before .before .before .before .args .t) n)) (c .before .before .before .up-to .ensures .0)
 
-returns : tie.Need-returns Inv-loop μ-loop
-returns c = rw (← c .before .before .before .before .before .before .up-to .ensures .0) (sym (all-stop _ (c .before .before .before .before .loop .e) _ (omega (arith, c .before .before .before .before .before .entry-count .ensures .0)) (sym (every-with-is (c .before .before .before .before .before .before .before .before .before .args .cs .now) (c .before .before .before .before .before .before .before .before .before .args .t) _ (c .before .before .before .before .before .before .before .everys-of .result) _ (c .before .before .before .before .before .before .before .everys-of .ensures)) ∙ (sym (c .before .every-ok .ensures) ∙ not-true _ (c .if1 .taken)))))
-
-add-e : tie.Need-add-e Inv-loop μ-loop
-add-e c = omega arith
-
-loop-less : tie.Need-loop-less Inv-loop μ-loop
-loop-less c = omega arith
-
-loop-again : tie.Need-loop-again Inv-loop μ-loop
-loop-again c = (omega arith, c .before .before .before .before .loop .inv .1, all-more _ (c .before .before .before .before .loop .e) (c .before .before .before .before .loop .inv .2) (sym (every-with-is (c .before .before .before .before .before .before .before .before .before .args .cs .now) (c .before .before .before .before .before .before .before .before .before .args .t) _ (c .before .before .before .before .before .before .before .everys-of .result) _ (c .before .before .before .before .before .before .before .everys-of .ensures)) ∙ (sym (c .before .every-ok .ensures) ∙ not-false _ (c .if1 .left))))
-
-returns-2 : tie.Need-returns-2 Inv-loop μ-loop
-returns-2 c = rw (← c .before .before .before .up-to .ensures .0) (sym (all-done _ (c .before .loop .e) _ (omega (arith, c .before .before .entry-count .ensures .0)) (omega (arith, c .before .before .entry-count .ensures .0)) (c .before .loop .inv .2)))
+returns-2 : tie.Need-returns-2
+returns-2 c = sym (none-asked (c .before .before .before .before .args .cs .now) (c .before .before .before .before .args .t) _ (ap (λ n. anyBelow n (λ i. eqb (roleAt (c .before .before .before .before .args .t) i .transitive) 1)) (sym (c .before .before .up-to .ensures .0)) ∙ sym (c .before .some-transitive .ensures) ∙ c .if1 .left))
 
 pub everys-ok-spec : {M : Type 1} → statement M
 everys-ok-spec =
-    tie.close
-    (tie.spec
-    Inv-loop
-    μ-loop
-    everys-of-requires
-    up-to-requires
-    entry-count-requires
-    loop-holds
-    every-ok-requires
-    returns
-    add-e
-    loop-less
-    loop-again
-    returns-2)
+    tie.close (tie.spec up-to-requires some-transitive-requires all-ok-requires returns returns-2)
