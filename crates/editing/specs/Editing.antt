@@ -29,7 +29,7 @@ pub record Draft : Type 0 where
   pub root : Option ℕ
   pub rules : List ℕ
 
--- "start an empty role table": nothing is in it
+-- the start: nothing is in it
 abbrev pub nothing : Draft
 nothing = record { roles = []; entries = []; root = none; rules = [] }
 
@@ -62,7 +62,7 @@ describes T = record {
   rule = λ i. literal (getD (T .rules) i 0);
 }
 
--- ---- "rules of 3 to 8", as for the bytes of a description
+-- ---- 3 to 8, as for the bytes of a description
 -- what is in 3 and 4 beside the description: a transitive byte of 0 or 1; fields that are those of an entry
 abbrev pub roleForm : Draft → ℕ → Bool
 roleForm T r = leb (roleIn T r .transitive) 1
@@ -75,12 +75,14 @@ abbrev pub queryKept : Draft → Bool
 queryKept T = (isSet (T .root) ⇒ literalTest (describes T) (describes T .root))
     && allBelow (length (T .rules)) (λ i. literalTest (describes T) (describes T .rule i))
 
--- the smallest number of 3 to 8 that the draft breaks
+-- the first of 3 to 8 that refuses a description, with what 3, 4 and 8 ask beside it; and so of a draft
+abbrev pub tests : (ℕ → Bool) → (ℕ → Bool) → Bool → Description → Option ℕ
+tests roleForm entryForm query D =
+    unless (rolesTest roleForm D) 3 (unless (entriesTest entryForm D) 4
+    (unless (simplesTest D) 5 (unless (distinctsTest D) 6 (unless (everysTest D) 7 (unless query 8 none)))))
+
 unfoldable pub broken : Draft → Option ℕ
-broken T =
-    unless (rolesTest (roleForm T) (describes T)) 3 (unless (entriesTest (entryForm T) (describes T)) 4
-    (unless (simplesTest (describes T)) 5 (unless (distinctsTest (describes T)) 6
-    (unless (everysTest (describes T)) 7 (unless (queryKept T) 8 none)))))
+broken T = tests (roleForm T) (entryForm T) (queryKept T) (describes T)
 
 -- ---- the operations: add a role, an inclusion of r in p, a concept; set the root; add a rule
 pub data Edit : Type 0 where
@@ -90,7 +92,8 @@ pub data Edit : Type 0 where
   newRoot : (l : ℕ) → Edit
   newRule : (l : ℕ) → Edit
 
--- the draft with it put in: a role comes without parents, "an inclusion sets its one parent bit, the own bit too", the last root counts
+-- the draft with it put in: a role comes without parents, an inclusion adds one bit to the parents of r, also where p is r, and of several
+-- roots the last counts
 abbrev pub putIn : Draft → Edit → Draft
 putIn T (newRole t) = record {
   roles = T .roles ++ (record { transitive = t; parents = 0 } ∷ []);
@@ -108,7 +111,7 @@ putIn T (concept F) = record { roles = T .roles; entries = T .entries ++ (F ∷ 
 putIn T (newRoot l) = record { roles = T .roles; entries = T .entries; root = some l; rules = T .rules }
 putIn T (newRule l) = record { roles = T .roles; entries = T .entries; root = T .root; rules = T .rules ++ (l ∷ []) }
 
--- 25: "the role, entry or rule table that the operation adds to" is not at its limit
+-- 25: the table that grows has not reached its limit
 abbrev pub hasRoom : Draft → Edit → Bool
 hasRoom T (newRole t) = ltb (length (T .roles)) mostRoles
 hasRoom T (inclusion r p) = true
@@ -116,7 +119,7 @@ hasRoom T (concept F) = ltb (length (T .entries)) mostEntries
 hasRoom T (newRoot l) = true
 hasRoom T (newRule l) = ltb (length (T .rules)) mostRules
 
--- 3: an inclusion is not "past the role table"
+-- 3: both roles of an inclusion are there
 abbrev pub inTable : Draft → Edit → Bool
 inTable T (newRole t) = true
 inTable T (inclusion r p) = ltb r (length (T .roles)) && ltb p (length (T .roles))
@@ -124,7 +127,7 @@ inTable T (concept F) = true
 inTable T (newRoot l) = true
 inTable T (newRule l) = true
 
--- 25 "before any other test"; then the smallest number of 3 to 8 that the draft would break with it
+-- 25 comes first; then the lowest number of 3 to 8 that the draft would break with it
 unfoldable pub refusal : Draft → Edit → Option ℕ
 refusal T e = unless (hasRoom T e) 25 (unless (inTable T e) 3 (broken (putIn T e)))
 
@@ -132,7 +135,7 @@ refusal T e = unless (hasRoom T e) 25 (unless (inTable T e) 3 (broken (putIn T e
 abbrev pub edited : Draft → Edit → Draft
 edited T e = unlessRefused T (putIn T e) (wholly (refusal T e))
 
--- "states made by these alone"
+-- the drafts that the operations make, from the start on
 pub data Made : Draft → Type 0 where
   start : Made nothing
   next : {T : Draft} (e : Edit) → Made T → Made (edited T e)
