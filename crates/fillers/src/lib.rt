@@ -16,7 +16,7 @@ ghost use Rattle.evidence.specs.Evidence.{labelOf};
 ghost use Rattle.tables.specs.Tables.{fieldsAt};
 ghost use Rattle.answers.specs.Answers.{refusalOf};
 ghost use Rattle.fillers.specs.FillerSteps.{allHave, someHas, allDecide, fillers};
-ghost use Rattle.fillers.specs.FillerSteps.{everyAbove, hasAbove, carried, everyHolds, leastHolds, leastAt, countsCode};
+ghost use Rattle.fillers.specs.FillerSteps.{everyAbove, hasAbove, everyHolds, leastHolds, leastAt, countsCode};
 ghost use Rattle.fillers.specs.Gathered.{Gathered, Counted};
 ghost use Rattle.fillers.specs.Sources.{sourcesAbove, sourcesOf, SourcesOf, everyWith, everysWith};
 use answers::Tested;
@@ -30,7 +30,6 @@ use labels::holds;
 use labels::next_rest;
 use labels::put;
 use nodes::opposite;
-use roles::Role;
 use roles::has16;
 use tables::Concept;
 use tables::Count;
@@ -67,8 +66,8 @@ fn held_above(cs: &[u8], rest: u32, above: u16, l: u8, f: EntryNo) -> bool
     }
 }
 
-// Whether the label holds such an entry.
-fn has_above(cs: &[u8], x: Label, above: u16, l: u8) -> bool
+// Whether the label holds such an entry. With the mask of a transitive role's ancestors: whether the role's edges carry "every" of it on.
+pub fn has_above(cs: &[u8], x: Label, above: u16, l: u8) -> bool
     ensures { λ q. ⌜ q ≡ hasAbove (now (cs .entry)) (valueOf x) above l ⌝ }
 {
     let n = entry_count(cs);
@@ -82,17 +81,6 @@ fn has_above(cs: &[u8], x: Label, above: u16, l: u8) -> bool
         f += 1;
     }
     false
-}
-
-// Whether the role of this record is transitive and the label holds "every q l" for an ancestor `q` of it.
-pub fn is_carried(cs: &[u8], r: Role, x: Label, l: u8) -> bool
-    ensures { λ q. ⌜ q ≡ carried (now (cs .entry)) r (valueOf x) l ⌝ }
-{
-    if r.transitive == 1 {
-        has_above(cs, x, r.ancestors, l)
-    } else {
-        false
-    }
 }
 
 // The label with entry `f`, if that is an "every q l" with `q` in the mask `above`.
@@ -122,27 +110,27 @@ fn sources_above(cs: &[u8], above: u16, l: u8) -> Label
 }
 
 // The sources of entry `e`: none if it is no "every" or its role is not transitive.
-fn sources_at(t: [Role; 16], cs: &[u8], e: EntryNo) -> Label
-    ensures { λ q. ⌜ valueOf q ≡ sourcesOf t (now (cs .entry)) (fieldsAt (now (cs .entry)) (e .0)) ⌝ }
+fn sources_at(m: &[u16; 32], cs: &[u8], e: EntryNo) -> Label
+    ensures { λ q. ⌜ valueOf q ≡ sourcesOf (now (m .entry)) (now (cs .entry)) (fieldsAt (now (cs .entry)) (e .0)) ⌝ }
 {
     let g = fields_at(cs, e);
-    let r = t[(g.role % 16) as usize];
-    if (g.kind == 3) & (r.transitive == 1) {
-        sources_above(cs, r.ancestors, g.first)
+    if g.kind == 3 {
+        sources_above(cs, m[(16 + g.role % 16) as usize], g.first)
     } else {
         empty()
     }
 }
 
-// For each entry "every r l" with `r` transitive, the entries whose presence in a label makes the edges of role `r` carry it on.
-pub fn sources(t: [Role; 16], cs: &[u8]) -> [u64; MOST_ENTRIES as usize]
-    ensures { λ q. ⌜ SourcesOf t (now (cs .entry)) q ⌝ }
+// For each entry "every r l" with `r` transitive, the entries whose presence in a label makes the edges of role `r` carry it on; `m` has the masks
+// of the roles.
+pub fn sources(m: &[u16; 32], cs: &[u8]) -> [u64; MOST_ENTRIES as usize]
+    ensures { λ q. ⌜ SourcesOf (now (m .entry)) (now (cs .entry)) q ⌝ }
 {
     let n = entry_count(cs);
     let mut out: [u64; MOST_ENTRIES as usize] = [0; MOST_ENTRIES as usize];
     let mut e: u8 = 0;
     while e < n {
-        out[e as usize] = entries_of(sources_at(t, cs, EntryNo(e)));
+        out[e as usize] = entries_of(sources_at(m, cs, EntryNo(e)));
         e += 1;
     }
     out
