@@ -1,4 +1,4 @@
--- What the editor writes out (02, job 4): "exactly what was put in, in that order and with three pairs"; what it answers, and all bytes of
+-- What the editor writes out (02, job 4): three pairs, and the parts as they were put in; what it answers, and all bytes of
 -- the buffer.
 use Prim.Native.Nat.{ℕ, _+_}
 use mathlib.Core.Bool.{Bool, _&&_}
@@ -43,11 +43,11 @@ unfoldable pub outBytes : Draft → List ℕ
 outBytes T = withPairs (rolesOut T) (conceptsOut T) (queryOut T)
 
 -- ---- what writing out answers
--- 2: "once it holds a role, entry 0 and a root"
+-- 2: a role, entry 0 and a root are there
 abbrev pub whole : Draft → Bool
 whole T = leb 1 (length (T .roles)) && (leb 1 (length (T .entries)) && isSet (T .root))
 
--- "before that, writing out is 2; then a short buffer is 22", for a buffer of n bytes
+-- 2 before 22, for a buffer of n bytes
 unfoldable pub outRefused : Draft → ℕ → Option ℕ
 outRefused T n = unless (whole T) 2 (unless (leb (length (outBytes T)) n) 22 none)
 

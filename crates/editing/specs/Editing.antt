@@ -29,7 +29,7 @@ pub record Draft : Type 0 where
   pub root : Option ℕ
   pub rules : List ℕ
 
--- "start an empty role table": nothing is in it
+-- the start: nothing is in it
 abbrev pub nothing : Draft
 nothing = record { roles = []; entries = []; root = none; rules = [] }
 
@@ -62,7 +62,7 @@ describes T = record {
   rule = λ i. literal (getD (T .rules) i 0);
 }
 
--- ---- "rules of 3 to 8", as for the bytes of a description
+-- ---- 3 to 8, as for the bytes of a description
 -- what is in 3 and 4 beside the description: a transitive byte of 0 or 1; fields that are those of an entry
 abbrev pub roleForm : Draft → ℕ → Bool
 roleForm T r = leb (roleIn T r .transitive) 1
@@ -90,7 +90,7 @@ pub data Edit : Type 0 where
   newRoot : (l : ℕ) → Edit
   newRule : (l : ℕ) → Edit
 
--- the draft with it put in: a role comes without parents, "an inclusion sets its one parent bit, the own bit too", the last root counts
+-- the draft with it put in: a role comes without parents, an inclusion adds bit p to the parents of r (p may be r), the last root counts
 abbrev pub putIn : Draft → Edit → Draft
 putIn T (newRole t) = record {
   roles = T .roles ++ (record { transitive = t; parents = 0 } ∷ []);
@@ -108,7 +108,7 @@ putIn T (concept F) = record { roles = T .roles; entries = T .entries ++ (F ∷ 
 putIn T (newRoot l) = record { roles = T .roles; entries = T .entries; root = some l; rules = T .rules }
 putIn T (newRule l) = record { roles = T .roles; entries = T .entries; root = T .root; rules = T .rules ++ (l ∷ []) }
 
--- 25: "the role, entry or rule table that the operation adds to" is not at its limit
+-- 25: the table that grows has not reached its limit
 abbrev pub hasRoom : Draft → Edit → Bool
 hasRoom T (newRole t) = ltb (length (T .roles)) mostRoles
 hasRoom T (inclusion r p) = true
@@ -116,7 +116,7 @@ hasRoom T (concept F) = ltb (length (T .entries)) mostEntries
 hasRoom T (newRoot l) = true
 hasRoom T (newRule l) = ltb (length (T .rules)) mostRules
 
--- 3: an inclusion is not "past the role table"
+-- 3: both roles of an inclusion are there
 abbrev pub inTable : Draft → Edit → Bool
 inTable T (newRole t) = true
 inTable T (inclusion r p) = ltb r (length (T .roles)) && ltb p (length (T .roles))
@@ -124,7 +124,7 @@ inTable T (concept F) = true
 inTable T (newRoot l) = true
 inTable T (newRule l) = true
 
--- 25 "before any other test"; then the smallest number of 3 to 8 that the draft would break with it
+-- 25 comes first; then the lowest number of 3 to 8 that the draft would break with it
 unfoldable pub refusal : Draft → Edit → Option ℕ
 refusal T e = unless (hasRoom T e) 25 (unless (inTable T e) 3 (broken (putIn T e)))
 
@@ -132,7 +132,7 @@ refusal T e = unless (hasRoom T e) 25 (unless (inTable T e) 3 (broken (putIn T e
 abbrev pub edited : Draft → Edit → Draft
 edited T e = unlessRefused T (putIn T e) (wholly (refusal T e))
 
--- "states made by these alone"
+-- the drafts that the operations make, from the start on
 pub data Made : Draft → Type 0 where
   start : Made nothing
   next : {T : Draft} (e : Edit) → Made T → Made (edited T e)

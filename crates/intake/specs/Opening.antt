@@ -1,4 +1,4 @@
--- A description opened: the answer of tests 1 to 8, and the role records that the whole checker reads (02, request 4).
+-- A description opened: the answer of tests 1 to 8, and the role records that the whole checker reads (02, job 4).
 use Prim.Native.Nat.{ℕ}
 use mathlib.Core.Path.{_≡_, refl}
 use mathlib.Core.List.{List}

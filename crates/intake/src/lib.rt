@@ -258,7 +258,7 @@ pub struct Opening {
     pub count: u8,
 }
 
-// Opens a description. Every entry point begins with this, and reads the records that it hands on.
+// Opens a description. Every entry point begins with this.
 pub fn open_description(d: &[u8]) -> Opening
     ensures { λ r. ⌜ Opens (now (d .entry)) r ⌝ }
 {

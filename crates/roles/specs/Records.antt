@@ -1,4 +1,4 @@
--- The role records in working memory (02, request 4): each role with its transitive byte and its parents, as the description has them, its
+-- The role records in working memory (02, job 4): each role with its transitive byte and its parents, as the description has them, its
 -- ancestors, and whether it is simple.
 use Prim.Native.Nat.{ℕ, zero, suc, _+_, _*_, _/_, _≤_, _<_}
 use mathlib.Core.Path.{_≡_, refl, sym, _∙_, ap, ap₂}
