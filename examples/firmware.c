@@ -77,6 +77,7 @@ static bool weigh(const char *name, struct bytes description, struct bytes evide
     case SHQ_HOLDS:
     case SHQ_FAILS:
     case SHQ_HOLDS_OF_NOTHING:
+    case SHQ_DONE:
         puts("no answer of shq_check");
         kept = false;
         break;
@@ -120,6 +121,7 @@ static bool judge(const char *name, struct bytes description, uint8_t live, stru
     case SHQ_INHABITED: /* answers of the other functions */
     case SHQ_EMPTY:
     case SHQ_WRITTEN:
+    case SHQ_DONE:
         puts("no answer of shq_claim");
         kept = false;
         break;

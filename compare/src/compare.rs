@@ -1,6 +1,7 @@
 //! Holds the library's answers against the paper's and counts them.
 
 use crate::library;
+use compare::answers::{code, hex, told, WORDS};
 use compare::make::spoil_claim::Given;
 use compare::paper;
 use compare::paper::label::{Width, WIDTHS};
@@ -27,7 +28,7 @@ pub const NUMBERS: usize = 25;
 #[derive(Default)]
 pub struct Tally {
     /// How often each word came.
-    pub words: [usize; library::WORDS.len()],
+    pub words: [usize; WORDS.len()],
     /// How often each refusal number came.
     pub refusals: [usize; NUMBERS],
     /// How often a wrong walk over cells would have changed the answer.
@@ -58,7 +59,7 @@ impl Comparison {
     pub fn check(&mut self, description: &[u8], evidence: &[u8]) {
         let answer = paper::check(description, evidence);
         self.count_walks(Kind::Plain, description, evidence, answer);
-        let expected = library::code(answer);
+        let expected = code(answer);
         let (d, e) = (self.placed(description), self.placed(evidence));
         let found = library::check(d.bytes(), e.bytes());
         if !self.count(Kind::Plain, description, expected, found) {
@@ -67,7 +68,7 @@ impl Comparison {
     }
 
     pub fn read(&mut self, description: &[u8], line: &[u8]) {
-        let expected = library::code(paper::read(description, line));
+        let expected = code(paper::read(description, line));
         let (d, l) = (self.placed(description), self.placed(line));
         let found = library::read(d.bytes(), l.bytes());
         if !self.count(Kind::Plain, description, expected, found) {
@@ -85,7 +86,7 @@ impl Comparison {
         };
         let answer = paper::claim(description, c, d, first, second);
         self.count_walks(kind, description, first, answer);
-        let expected = library::code(answer);
+        let expected = code(answer);
         let placed = slices.map(|slice| self.placed(slice));
         let [in_description, in_first, in_second] = placed.each_ref().map(Placed::bytes);
         let found = library::claim(in_description, c, d, in_first, in_second);
@@ -102,7 +103,7 @@ impl Comparison {
         let mut theirs = ours.clone();
         let middle = GUARD..GUARD + room;
         let answer = paper::write(description, evidence, &mut ours[middle.clone()]);
-        let expected = library::code(answer);
+        let expected = code(answer);
         let (d, e) = (self.placed(description), self.placed(evidence));
         let found = library::write(d.bytes(), e.bytes(), &mut theirs[middle]);
         let same = self.count(Kind::Plain, description, expected, found);
@@ -176,16 +177,9 @@ impl Placed {
 }
 
 fn tell(function: &str, expected: u32, found: u32, slices: &[&[u8]]) {
-    let (expected, found) = (library::told(expected), library::told(found));
+    let (expected, found) = (told(expected), told(found));
     println!("DIFFERENCE in {function}: paper {expected}, library {found}");
     for slice in slices {
         println!("  {}", hex(slice));
     }
-}
-
-fn hex(bytes: &[u8]) -> String {
-    if bytes.is_empty() {
-        return "-".into();
-    }
-    bytes.iter().map(|b| format!("{b:02x}")).collect()
 }

@@ -38,7 +38,8 @@ pub fn description(description: &Description) -> Vec<u8> {
     join_parts(&description_parts(description))
 }
 
-fn entry(concept: &Concept) -> [u8; 6] {
+/// An entry as it is stored.
+pub fn entry(concept: &Concept) -> [u8; 6] {
     match *concept {
         Concept::Top => [0; 6],
         Concept::Name => [1, 0, 0, 0, 0, 0],

@@ -1,6 +1,7 @@
 //! The checker's C interface.
 
-use compare::paper::Answer;
+use compare::edits::Panel;
+use compare::paper::editor::Operation;
 
 extern "C" {
     fn shq_check(
@@ -32,6 +33,26 @@ extern "C" {
         first_length: usize,
         second: *const u8,
         second_length: usize,
+    ) -> u32;
+    fn shq_edit_start(state: *mut u8, state_length: usize) -> u32;
+    fn shq_edit_role(state: *mut u8, state_length: usize, transitive: u8) -> u32;
+    fn shq_edit_inclusion(state: *mut u8, state_length: usize, role: u8, parent: u8) -> u32;
+    fn shq_edit_concept(
+        state: *mut u8,
+        state_length: usize,
+        kind: u8,
+        role: u8,
+        first: u8,
+        second: u8,
+        number: u16,
+    ) -> u32;
+    fn shq_edit_root(state: *mut u8, state_length: usize, literal: u8) -> u32;
+    fn shq_edit_rule(state: *mut u8, state_length: usize, literal: u8) -> u32;
+    fn shq_edit_write(
+        state: *const u8,
+        state_length: usize,
+        buffer: *mut u8,
+        buffer_length: usize,
     ) -> u32;
 }
 
@@ -89,31 +110,45 @@ pub fn claim(description: &[u8], c: u8, d: u8, first: &[u8], second: &[u8]) -> u
     }
 }
 
-pub const WORDS: [&str; 7] = [
-    "REFUSED",
-    "INHABITED",
-    "EMPTY",
-    "WRITTEN",
-    "HOLDS",
-    "FAILS",
-    "HOLDS OF NOTHING",
-];
+/// The editor's functions, with the checker's.
+pub struct Library;
 
-/// An answer of the paper in the interface's form: word · 65536 + number · 256 + record.
-pub fn code(answer: Answer) -> u32 {
-    match answer {
-        Answer::Refused(refusal) => refusal.number as u32 * 256 + refusal.record as u32,
-        Answer::Inhabited => 65536,
-        Answer::Empty => 2 * 65536,
-        Answer::Written => 3 * 65536,
-        Answer::Holds => 4 * 65536,
-        Answer::Fails => 5 * 65536,
-        Answer::HoldsOfNothing => 6 * 65536,
+impl Panel for Library {
+    fn edit(&self, state: &mut [u8], operation: Operation) -> u32 {
+        let (at, length) = (state.as_mut_ptr(), state.len());
+        // SAFETY: the state is lent for the call, for reading and writing.
+        unsafe {
+            match operation {
+                Operation::Start => shq_edit_start(at, length),
+                Operation::Role(transitive) => shq_edit_role(at, length, transitive),
+                Operation::Inclusion { role, parent } => {
+                    shq_edit_inclusion(at, length, role, parent)
+                }
+                Operation::Concept([kind, role, first, second, high, low]) => {
+                    let number = u16::from_be_bytes([high, low]);
+                    shq_edit_concept(at, length, kind, role, first, second, number)
+                }
+                Operation::Root(literal) => shq_edit_root(at, length, literal),
+                Operation::Rule(literal) => shq_edit_rule(at, length, literal),
+                // It has a buffer, too.
+                Operation::Write(_) => unreachable!("writing out is not an edit"),
+            }
+        }
     }
-}
 
-/// An answer in words.
-pub fn told(code: u32) -> String {
-    let word = WORDS.get(code as usize >> 16).unwrap_or(&"(no word)");
-    format!("{word} {} {}", code >> 8 & 255, code & 255)
+    fn write(&self, state: &[u8], buffer: &mut [u8]) -> u32 {
+        // SAFETY: the buffer is lent for writing, and the state does not share its bytes.
+        unsafe {
+            shq_edit_write(
+                state.as_ptr(),
+                state.len(),
+                buffer.as_mut_ptr(),
+                buffer.len(),
+            )
+        }
+    }
+
+    fn check(&self, description: &[u8], evidence: &[u8]) -> u32 {
+        check(description, evidence)
+    }
 }

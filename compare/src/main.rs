@@ -1,13 +1,14 @@
 //! Compares the checker's library with the papers' own implementation.
 //!
 //! Arguments: a seed (1 if not given), then a number of inputs (300,000 if not given); as many
-//! claims follow them.
+//! claims follow them, then a script for the editor for every ten.
 
 mod claims;
 mod compare;
 mod library;
 mod report;
 
+use ::compare::edits::Edits;
 use ::compare::encode;
 use ::compare::make::refutations::Known;
 use ::compare::make::{
@@ -40,7 +41,11 @@ fn main() -> ExitCode {
     while comparison.inputs() < 2 * inputs as usize && comparison.differences < 20 {
         claims::round(&mut r, &mut comparison, &mut before);
     }
-    ExitCode::from(!report::report(&comparison) as u8)
+    let mut edits = Edits::default();
+    while edits.scripts < inputs as usize / 10 && edits.differences < 20 {
+        edits.round(&mut r, &library::Library);
+    }
+    ExitCode::from(!report::report(&comparison, &edits) as u8)
 }
 
 /// One description with evidence, lines and damage to all of them; also with the evidence of

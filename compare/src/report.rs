@@ -1,7 +1,9 @@
 //! The table of answers, and whether each came often enough.
 
 use crate::compare::{Comparison, Kind, KINDS, NUMBERS};
-use crate::library::WORDS;
+use compare::answers::WORDS;
+use compare::edits::tally::{self, LEAST, OPERATIONS};
+use compare::edits::Edits;
 use compare::paper::label::{Width, WIDTHS};
 use compare::walks::WALKS;
 
@@ -18,8 +20,17 @@ struct Row {
     least: usize,
 }
 
-/// Prints the table; true if each answer came often enough and none was another than expected.
-pub fn report(c: &Comparison) -> bool {
+/// Prints both tables; true if each answer came often enough and none was another than expected.
+pub fn report(c: &Comparison, edits: &Edits) -> bool {
+    let rare = answers(c) | editor(edits);
+    let inputs = c.inputs() + edits.scripts;
+    let differences = c.differences + edits.differences;
+    println!("{inputs} inputs, {differences} differences");
+    !rare && differences == 0
+}
+
+/// The answers to questions, lines and claims; true if one came too seldom.
+fn answers(c: &Comparison) -> bool {
     let rows: Vec<Row> = words(c).chain(refusals(c)).chain(walks(c)).collect();
     let rare = rows.iter().any(Row::too_seldom);
     let kinds = ["plain", "one piece", "two pieces"].map(String::from);
@@ -34,12 +45,32 @@ pub fn report(c: &Comparison) -> bool {
     if rare {
         println!("Some answer came too seldom ({LEAST_WORDS} for a word, {LEAST_REFUSALS} for a refusal or a walk).");
     }
-    println!("{} inputs, {} differences", c.inputs(), c.differences);
-    !rare && c.differences == 0
+    rare
+}
+
+/// The answers of the editor, and the errors that scripts show; true if one came too seldom.
+fn editor(edits: &Edits) -> bool {
+    let (scripts, operations) = (edits.scripts, edits.tally.operations());
+    println!("\n{scripts} scripts, {operations} operations");
+    let tables = [edits.tally.rows(), edits.tally.slip_rows()];
+    let heads = [&OPERATIONS.map(String::from)[..], &["scripts".into()]];
+    for (rows, head) in tables.iter().zip(heads) {
+        print_row("", head);
+        for row in rows {
+            print_row(&row.head, &row.counts.iter().map(shown).collect::<Vec<_>>());
+        }
+    }
+    let rare = tables.iter().flatten().any(tally::Row::too_seldom);
+    if rare {
+        println!("Some answer of the editor or some slip came too seldom ({LEAST}).");
+    }
+    rare
 }
 
 fn words(c: &Comparison) -> impl Iterator<Item = Row> + '_ {
-    WORDS.iter().enumerate().map(|(word, name)| Row {
+    let words = WORDS.iter().enumerate();
+    let words = words.filter(|(_, name)| KINDS.iter().any(|&kind| has_word(kind, name)));
+    words.map(|(word, name)| Row {
         answer: name.to_string(),
         counts: table(|kind, width| has_word(kind, name).then(|| c.tally(kind, width).words[word])),
         least: LEAST_WORDS,
@@ -74,10 +105,14 @@ fn print_row(head: &str, fields: &[String]) {
     println!("{head:16}{fields}");
 }
 
+fn shown(count: &Option<usize>) -> String {
+    count.map_or("-".into(), |n| n.to_string())
+}
+
 /// Can inputs of this kind have that word for an answer?
 fn has_word(kind: Kind, word: &str) -> bool {
     match kind {
-        Kind::Plain => word != "HOLDS OF NOTHING",
+        Kind::Plain => !["HOLDS OF NOTHING", "DONE"].contains(&word),
         Kind::OnePiece => ["REFUSED", "FAILS", "HOLDS OF NOTHING"].contains(&word),
         Kind::TwoPieces => ["REFUSED", "HOLDS"].contains(&word),
     }
@@ -98,8 +133,7 @@ impl Row {
     }
 
     fn print(&self) {
-        let shown = |n: Option<usize>| n.map_or("-".into(), |n| n.to_string());
-        let counts: Vec<String> = self.counts.concat().into_iter().map(shown).collect();
+        let counts: Vec<String> = self.counts.concat().iter().map(shown).collect();
         print_row(&self.answer, &counts);
     }
 }

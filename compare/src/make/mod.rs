@@ -1,10 +1,11 @@
-//! Makers of inputs: accepted descriptions, evidence found by small searches, lines, claims, and
-//! damage to each of them.
+//! Makers of inputs: accepted descriptions, evidence found by small searches, lines, claims, damage
+//! to each of them, and scripts for the editor.
 
 pub mod cells;
 pub mod claims;
 pub mod damage;
 pub mod descriptions;
+pub mod edits;
 pub mod graphs;
 pub mod lines;
 pub mod refutations;

@@ -74,11 +74,19 @@ impl Description {
 
     /// Tests 5 to 8, each over the whole description.
     fn test(&self) -> Result<(), Refusal> {
-        let tests: [(u8, Test); 4] = [
+        self.test_entries()?;
+        match self.question_in_table() {
+            true => Ok(()),
+            false => Err(Refusal::whole(8)),
+        }
+    }
+
+    /// Tests 5 to 7, which the question has no part in.
+    pub(super) fn test_entries(&self) -> Result<(), Refusal> {
+        let tests: [(u8, Test); 3] = [
             (5, Description::counts_simple_roles),
             (6, Description::has_no_twin),
             (7, Description::has_each_every),
-            (8, Description::question_in_table),
         ];
         for (number, test) in tests {
             if !test(self) {
@@ -161,7 +169,7 @@ fn records_in(part: &[u8], size: usize, most: usize) -> bool {
 }
 
 /// 3: the transitive byte is 0 or 1, and no parent bit is past the last role.
-fn read_roles(part: &[u8]) -> Option<Vec<Role>> {
+pub(super) fn read_roles(part: &[u8]) -> Option<Vec<Role>> {
     let count = part.len() / 3;
     let role = |record: &[u8]| {
         let parents = number(record, 1);
@@ -175,7 +183,7 @@ fn read_roles(part: &[u8]) -> Option<Vec<Role>> {
 }
 
 /// 4: every field of every entry is within its rule.
-fn read_concepts(part: &[u8], roles: usize) -> Option<Vec<Concept>> {
+pub(super) fn read_concepts(part: &[u8], roles: usize) -> Option<Vec<Concept>> {
     part.chunks(6)
         .enumerate()
         .map(|(e, record)| read_concept(e, record, roles))
@@ -183,7 +191,7 @@ fn read_concepts(part: &[u8], roles: usize) -> Option<Vec<Concept>> {
 }
 
 /// 4, for entry e: literals below 2e, roles of the table, unused fields 0.
-fn read_concept(e: usize, record: &[u8], roles: usize) -> Option<Concept> {
+pub fn read_concept(e: usize, record: &[u8], roles: usize) -> Option<Concept> {
     let (kind, role, first, second) = (record[0], record[1] as usize, record[2], record[3]);
     let number = number(record, 4);
     let earlier = |l: Literal| (l as usize) < 2 * e;

@@ -1,10 +1,11 @@
-//! The papers' answers: the verdict on evidence, the written line, the reading of a line, and
-//! the judgement of a claim.
+//! The papers' answers: the verdict on evidence, the written line, the reading of a line, the
+//! judgement of a claim, and the editor's.
 
 pub mod bytes;
 pub mod claim;
 pub mod counting;
 pub mod description;
+pub mod editor;
 pub mod evidence;
 pub mod graph;
 pub mod label;
@@ -37,7 +38,7 @@ impl Refusal {
     }
 }
 
-/// Every answer of the four functions.
+/// Every answer of the four functions, and of the editor's.
 #[derive(Clone, Copy, PartialEq, Eq, Debug)]
 pub enum Answer {
     Refused(Refusal),
@@ -47,6 +48,7 @@ pub enum Answer {
     Holds,
     Fails,
     HoldsOfNothing,
+    Done,
 }
 
 /// The verdict on evidence for a description.

@@ -1,5 +1,5 @@
 -- What the editor's code lays into bytes.
-use Prim.Native.Nat.{ℕ, _+_, _*_, _/_, _%_}
+use Prim.Native.Nat.{ℕ, _+_, _/_, _%_}
 use mathlib.Core.List.{List, [], _∷_, _++_, flatten}
 use lib.ListN.{length, drop}
 use Rattle.logic.specs.Sets.{with}
@@ -9,9 +9,9 @@ use Rattle.laying.specs.Laying.{laid}
 use Rattle.tables.specs.declared.Fields.{Fields}
 use Rattle.edit_bytes.specs.Out.{withPairs}
 
--- the bytes of the roles with the bit of p in the parents of r
+-- bytes with the bit of p in the parents of the role at a place
 abbrev pub withParent : List ℕ → ℕ → ℕ → List ℕ
-withParent roles r p = laid roles (3 * r) (byteAt roles (3 * r) ∷ two (with (num2 roles (3 * r + 1)) p))
+withParent bytes at p = laid bytes at (byteAt bytes at ∷ two (with (num2 bytes (at + 1)) p))
 
 -- the six bytes of an entry
 abbrev pub sixBytes : Fields → List ℕ

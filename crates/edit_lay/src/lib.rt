@@ -1,11 +1,10 @@
 // What the editor lays into bytes: a role, an entry, and a whole description.
 ghost use mathlib.Core.Path.{_≡_};
-ghost use Prim.Native.Nat.{_+_, _*_, _%_, _<_, _≤_};
+ghost use Prim.Native.Nat.{_+_, _%_, _<_, _≤_};
 ghost use mathlib.Core.List.{[], _∷_};
 ghost use lib.ListN.{length};
 ghost use denote.Ref.{now};
 ghost use Rattle.logic.specs.Sets.{with};
-ghost use Rattle.labels.specs.Labels.{mostEntries};
 ghost use Rattle.laying.specs.Numbers.{two};
 ghost use Rattle.laying.specs.Laying.{laid, laidFrom};
 ghost use Rattle.edit_lay.specs.Lays.{withParent, sixBytes, pairsOf, sizeWith, writtenOver};
@@ -16,15 +15,13 @@ use parts::mask2;
 use tables::Fields;
 use tables::RoleNo;
 
-// The bytes of the roles with those of role `i`.
-pub fn lay_role(roles: [u8; 48], i: u8, transitive: u8, parents: u16) -> [u8; 48]
-    requires { ⌜ i < 16 ⌝ }
-    ensures { λ r. ⌜ r ≡ laid roles (3 * i) (transitive ∷ two parents) ⌝ }
+// The bytes of a role, at a place.
+pub fn lay_role(buf: &mut [u8], at: usize, transitive: u8, parents: u16)
+    requires { ⌜ at + 3 ≤ length (now buf) ⌝ }
+    ensures { λ _. ⌜ now (buf .exit) ≡ laid (now (buf .entry)) at (transitive ∷ two parents) ⌝ }
 {
     let bytes = [transitive, (parents / 256) as u8, (parents % 256) as u8];
-    let mut out = roles;
-    copy_bytes(&mut out, 3 * (i as usize), &bytes);
-    out
+    copy_bytes(buf, at, &bytes);
 }
 
 // The mask with the bit of `p`.
@@ -34,27 +31,25 @@ fn with_bit(x: u16, p: RoleNo) -> u16
     x | (1 << (p.0 % 16))
 }
 
-// The bytes of the roles with the bit of `p` in the parents of `r`.
-pub fn lay_parent(roles: [u8; 48], r: RoleNo, p: RoleNo) -> [u8; 48]
-    ensures { λ q. ⌜ q ≡ withParent roles (r .0 % 16) (p .0 % 16) ⌝ }
+// The bit of `p` in the parents of the role at a place.
+pub fn lay_parent(buf: &mut [u8], at: usize, p: RoleNo)
+    requires { ⌜ at + 3 ≤ length (now buf) ⌝ }
+    ensures { λ _. ⌜ now (buf .exit) ≡ withParent (now (buf .entry)) at (p .0 % 16) ⌝ }
 {
-    let i = r.0 % 16;
-    let at = 3 * (i as usize);
-    let parents = with_bit(mask2(&roles, at + 1), p);
-    lay_role(roles, i, byte(&roles, at), parents)
+    let transitive = byte(buf, at);
+    let parents = with_bit(mask2(buf, at + 1), p);
+    lay_role(buf, at, transitive, parents);
 }
 
-// The bytes of the concepts with those of entry `e`.
-pub fn lay_entry(concepts: [u8; 384], e: u8, f: Fields) -> [u8; 384]
-    requires { ⌜ e < mostEntries ⌝ }
-    ensures { λ r. ⌜ r ≡ laid concepts (6 * e) (sixBytes f) ⌝ }
+// The bytes of an entry, at a place.
+pub fn lay_entry(buf: &mut [u8], at: usize, f: Fields)
+    requires { ⌜ at + 6 ≤ length (now buf) ⌝ }
+    ensures { λ _. ⌜ now (buf .exit) ≡ laid (now (buf .entry)) at (sixBytes f) ⌝ }
 {
     let high = (f.number / 256 % 256) as u8;
     let low = (f.number % 256) as u8;
     let bytes = [f.kind, f.role, f.first, f.second, high, low];
-    let mut out = concepts;
-    copy_bytes(&mut out, 6 * (e as usize), &bytes);
-    out
+    copy_bytes(buf, at, &bytes);
 }
 
 // The three pairs, of parts of `a`, `b` and `c` bytes.

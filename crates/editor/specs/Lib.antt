@@ -1,9 +1,2 @@
 pub mod Holding
-pub mod NextStates
-pub mod FillLaws
 pub mod StateLaws
-pub mod QueryLaws
-pub mod WriteLaws
-pub mod TestLaws
-pub mod InclusionLaws
-pub mod ConceptLaws

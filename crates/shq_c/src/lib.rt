@@ -1,4 +1,6 @@
-// The four public functions for programs in C: an answer as one number.
+// The public functions for programs in C: an answer as one number.
+pub mod edit;
+
 ghost use mathlib.Core.Path.{_≡_};
 ghost use Prim.Native.Nat.{_+_, _*_};
 ghost use lib.ListN.{length};

@@ -9,14 +9,8 @@ use Rattle.edit_lay.proofs.with_bit.Reads as with-bit-reads
 use Rattle.parts.proofs.byte.Reads as byte-reads
 use Rattle.parts.proofs.mask2.Reads as mask2-reads
 
-cast-at : tie.Need-cast-at
-cast-at c = search needs
-
-mul-at : tie.Need-mul-at
-mul-at c = search needs
-
-slice-aggregate-mask2 : tie.Need-slice-aggregate-mask2
-slice-aggregate-mask2 c = search needs
+byte-requires : tie.Need-byte-requires
+byte-requires c κs = search needs
 
 add-mask2 : tie.Need-add-mask2
 add-mask2 c = search needs
@@ -27,29 +21,24 @@ mask2-requires c κs = search needs
 with-bit-requires : tie.Need-with-bit-requires
 with-bit-requires c κs = search needs
 
-slice-aggregate-byte : tie.Need-slice-aggregate-byte
-slice-aggregate-byte c = search needs
-
-byte-requires : tie.Need-byte-requires
-byte-requires c κs = search needs
-
 lay-role-requires : tie.Need-lay-role-requires
 lay-role-requires c κs = search needs
 
+same-length : tie.Need-same-length
+same-length c = search needs
+
 returns : tie.Need-returns
-returns c = rw (c .lay-role .ensures, c .before .byte .ensures, c .before .before .before .with-bit .ensures, c .before .before .before .before .mask2 .ensures) refl
+returns c = let p = c .before .before in let q = p .before .before in let u = q .before in let v = u .before .before in
+    rw (p .lay-role .ensures, v .byte .ensures, q .with-bit .ensures, u .mask2 .ensures) refl
 
 pub lay-parent-spec : {M : Type 1} → statement M
 lay-parent-spec =
     tie.close
     (tie.spec
-    cast-at
-    mul-at
-    slice-aggregate-mask2
+    byte-requires
     add-mask2
     mask2-requires
     with-bit-requires
-    slice-aggregate-byte
-    byte-requires
     lay-role-requires
+    same-length
     returns)

@@ -1,41 +1,25 @@
-use mathlib.Core.Path.{_∙_, sym}
-use borrow.Author.Tests.{not-true, not-false}
-use Rattle.editor.specs.StateLaws.{refused-answers, done-answers}
-use Rattle.editor.specs.QueryLaws.{root-past, root-put}
+use Rattle.editor.specs.StateLaws.{edits-state}
 use borrow.Author.Needs.{needs}
 use Rattle.editor.proofs.set_root.Statement.{statement}
 use Rattle.editor.proofs.set_root.Tie as tie
 use Rattle.editor.proofs.set_root.Reads as reads
 use Rattle.editor.proofs.set_root.Lts as lts
-use Rattle.editor.proofs.done.Reads as done-reads
-use Rattle.editor.proofs.is_literal.Reads as is-literal-reads
-use Rattle.editor.proofs.refused.Reads as refused-reads
+use Rattle.edit_state.proofs.put_root.Reads as put-root-reads
+use Rattle.editor.proofs.after.Reads as after-reads
 
-is-literal-requires : tie.Need-is-literal-requires
-is-literal-requires c κs = search needs
+slice-aggregate-put-root : tie.Need-slice-aggregate-put-root
+slice-aggregate-put-root c = search needs
 
-refused-requires : tie.Need-refused-requires
-refused-requires c κs = search needs
+put-root-requires : tie.Need-put-root-requires
+put-root-requires c κs = search needs
+
+after-requires : tie.Need-after-requires
+after-requires c κs = search needs
 
 returns : tie.Need-returns
-returns c = refused-answers (c .before .before .before .args .s) _ _ 8 (c .refused .ensures) (λ T h. root-past _ T h _ (sym (c .before .before .is-literal .ensures) ∙ not-true _ (c .before .if1 .taken)))
-
-element-write-next : tie.Need-element-write-next
-element-write-next c = search needs
-
-done-requires : tie.Need-done-requires
-done-requires c κs = search needs
-
-returns-2 : tie.Need-returns-2
-returns-2 c = done-answers (c .before .before .before .args .s) _ _ _ (c .done .ensures) (λ T h. root-put _ T h _ (sym (c .before .before .is-literal .ensures) ∙ not-false _ (c .before .if1 .left)))
+returns c = let p = c .before .before in let q = p .before .before .before in
+    edits-state (q .args .s) _ (p .put-root .result) _ _ (p .put-root .ensures) (c .after .ensures)
 
 pub set-root-spec : {M : Type 1} → statement M
 set-root-spec =
-    tie.close
-    (tie.spec
-    is-literal-requires
-    refused-requires
-    returns
-    element-write-next
-    done-requires
-    returns-2)
+    tie.close (tie.spec slice-aggregate-put-root put-root-requires after-requires returns)

@@ -1,0 +1,98 @@
+-- The editor's state in bytes, as a caller lends it (02, job 4): four numbers, then the three parts with 0 behind what is there; and what
+-- each operation does to them.
+use Prim.Native.Nat.{ℕ, _-_, _*_, _≤_, _<_}
+use mathlib.Core.Path.{_≡_}
+use mathlib.Core.Bool.{Bool, true, false, not, cond}
+use mathlib.Core.List.{List, [], _∷_, _++_}
+use lib.ListN.{length, replicate, take, drop}
+use Rattle.logic.specs.Bounded.{allBelow}
+use Rattle.parts.specs.Numbers.{byteAt, upTo}
+use Rattle.laying.specs.Laying.{laid}
+use Rattle.roles.specs.declared.Role.{Role}
+use Rattle.roles.specs.Records.{roleTable}
+use Rattle.answers.specs.declared.Change.{Change}
+use Rattle.answers.specs.declared.Change.the-variants.{Done, Refused}
+use Rattle.answers.specs.declared.Output as Outputs
+use Rattle.answers.specs.Answers.{wholly, answer, DONE, ofChange, ofOutput, sizeOf}
+use Rattle.intake.specs.Everys.{everyAt}
+use Rattle.intake.specs.Steps.{simpleAt, twinAt}
+use Rattle.edit_lay.specs.Lays.{withParent}
+use Rattle.editing.specs.Editing.{Draft, isSet, nothing, Edit, refusal, edited, Made}
+use Rattle.edit_bytes.specs.Out.{rolesOut, conceptsOut, queryOut, outAnswer, outLength, outBuffer}
+
+-- ---- the bytes of a draft
+-- an array of that size: the bytes, and then 0
+unfoldable pub filled : ℕ → List ℕ → List ℕ
+filled size x = x ++ replicate (size - length x) 0
+
+-- what is set is 1
+abbrev pub flag : Bool → ℕ
+flag true = 1
+flag false = 0
+
+-- how many roles and entries, whether a root is set, how many rules; then the three parts
+abbrev pub inBytes : ℕ → ℕ → ℕ → ℕ → List ℕ → List ℕ → List ℕ → List ℕ
+inBytes n m rooted k rs cs qs = (n ∷ m ∷ rooted ∷ k ∷ []) ++ rs ++ cs ++ qs
+
+unfoldable pub draftBytes : Draft → List ℕ
+draftBytes T = inBytes (length (T .roles)) (length (T .entries)) (flag (isSet (T .root))) (length (T .rules))
+    (filled 48 (rolesOut T)) (filled 384 (conceptsOut T)) (filled 17 (queryOut T))
+
+-- the bytes lent are those of a draft that is made by the operations alone, and the rest
+pub record Lends (bytes : List ℕ) (T : Draft) (rest : List ℕ) : Type 0 where
+  pub made : Made T
+  pub same : bytes ≡ draftBytes T ++ rest
+
+-- ---- what the code reads, of any bytes: the counts up to their limits, and the records of the roles
+abbrev pub rolesIn : List ℕ → ℕ
+rolesIn bytes = upTo 16 (byteAt bytes 0)
+
+abbrev pub entriesIn : List ℕ → ℕ
+entriesIn bytes = upTo 64 (byteAt bytes 1)
+
+abbrev pub rulesIn : List ℕ → ℕ
+rulesIn bytes = upTo 16 (byteAt bytes 3)
+
+abbrev pub tableIn : List ℕ → List Role
+tableIn bytes = roleTable (take (3 * rolesIn bytes) (drop 4 bytes))
+
+-- the records of these roles with the bit of p in the parents of r
+abbrev pub tableWith : List ℕ → ℕ → ℕ → List Role
+tableWith rs r p = roleTable (take (length rs) (drop 0 (withParent (laid (replicate 48 0) 0 rs) (3 * r) p)))
+
+-- 5, 6 and 7 of the last of the entries
+abbrev pub lastTest : List ℕ → ℕ → List Role → ℕ → Change
+lastTest cs e t n = cond (simpleAt cs t e)
+    (cond (allBelow e (λ f. not (twinAt cs e f))) (cond (everyAt cs t n e) Done (Refused 7 0)) (Refused 6 0)) (Refused 5 0)
+
+-- ---- what an operation does
+-- of every bytes: a refusal leaves them all, nothing behind the state's 453 changes, and fewer are refused with 22
+pub record Keeps (old : List ℕ) (r : Change) (new : List ℕ) : Type 0 where
+  pub kept : (n m : ℕ) → r ≡ Refused n m → new ≡ old
+  pub beyond : drop 453 new ≡ drop 453 old
+  pub short : length old < 453 → r ≡ Refused 22 0
+
+-- the start: nothing is put in
+pub record Starts (old : List ℕ) (r : Change) (new : List ℕ) : Type 0 where
+  pub begun : 453 ≤ length old → (r ≡ Done) × (new ≡ draftBytes nothing ++ drop 453 old)
+  pub keeps : Keeps old r new
+
+-- an operation: of the bytes of a draft that is made by the operations alone, the answer and the bytes of the draft after it
+pub record Edits (e : Edit) (old : List ℕ) (r : Change) (new : List ℕ) : Type 0 where
+  pub made : (T : Draft) (rest : List ℕ) → Lends old T rest
+      → (ofChange r ≡ answer DONE (wholly (refusal T e))) × (new ≡ draftBytes (edited T e) ++ rest)
+  pub keeps : Keeps old r new
+
+-- the answer of an operation, before anything is changed
+abbrev pub Judges : Edit → List ℕ → Change → Type 0
+Judges e bytes r = (T : Draft) (rest : List ℕ) → Lends bytes T rest → ofChange r ≡ answer DONE (wholly (refusal T e))
+
+-- writing out: of such bytes, the answer, how many bytes, and all bytes of the buffer; of every bytes, a refusal leaves the buffer, and
+-- nothing behind what is written changes, nor anything past 461
+pub record Writes (state old : List ℕ) (r : Outputs.Output) (new : List ℕ) : Type 0 where
+  pub made : (T : Draft) (rest : List ℕ) → Lends state T rest
+      → (ofOutput r ≡ outAnswer T (length old)) × (sizeOf r ≡ outLength T (length old)) × (new ≡ outBuffer T old)
+  pub kept : (n m : ℕ) → r ≡ Outputs.the-variants.Refused n m → new ≡ old
+  pub past : (n : ℕ) → r ≡ Outputs.the-variants.Bytes n → drop n new ≡ drop n old
+  pub most : drop 461 new ≡ drop 461 old
+  pub short : length state < 453 → r ≡ Outputs.the-variants.Refused 22 0

@@ -1,0 +1,10 @@
+pub mod Lent
+pub mod FillLaws
+pub mod PlaceLaws
+pub mod EditLaws
+pub mod TestLaws
+pub mod RoleLaws
+pub mod QueryLaws
+pub mod InclusionLaws
+pub mod ConceptLaws
+pub mod WriteLaws

@@ -1,0 +1,127 @@
+-- Writing out: what the code lays into the buffer, for every state; and of a state that holds a draft, that it is what was put in.
+use Prim.Native.Nat.{ℕ, _+_, _-_, _*_, _≤_, _<_}
+use mathlib.Core.Path.{_≡_, refl, sym, _∙_, ap, ap₂}
+use mathlib.Core.Bool.{Bool, true, false, _&&_}
+use mathlib.Core.List.{List, _++_}
+use mathlib.Core.Option.{none, some}
+use native.Mathlib.Omega.{arith}
+use borrow.Author.Tests.{lt-leb, le-leb}
+use lib.Dec.{eqb, leb}
+use lib.ListN.{length, take, drop, length-take}
+use lib.Seq.{drop-append-add, drop-drop}
+use Rattle.parts.specs.Numbers.{byteAt}
+use Rattle.answers.specs.declared.Output.the-variants.{Bytes, Refused}
+use Rattle.answers.specs.Answers.{wholly, answer, WRITTEN, ofOutput, sizeOf, unlessRefused, buffered}
+use Rattle.editing.specs.Editing.{Draft}
+use Rattle.edit_bytes.specs.Out.{withPairs, outBytes, whole, outRefused}
+use Rattle.edit_lay.specs.Lays.{sizeWith, writtenOver}
+use Rattle.edit_lay.specs.LayLaws.{with-pairs-long}
+use Rattle.edit_state.specs.Lent.{Lends, rolesIn, entriesIn, rulesIn, Writes}
+use Rattle.edit_state.specs.PlaceLaws.{enough, roles-count, entries-count, rules-count, root-flag, roles-read, concepts-read, query-read}
+
+pub span-short : (n : ℕ) (s r : List ℕ) → r ≡ take n s → length r ≤ n
+span-short n s r e = rw e (omega (arith, length-take n s))
+
+pub short-writes : (state old : List ℕ) → length state < 453 → Writes state old (Refused 22 0) old
+short-writes state old h = record {
+  made = λ T rest l. absurd (omega (arith, enough state T rest l));
+  kept = λ _ _ _. refl;
+  past = λ _ _. refl;
+  most = refl;
+  short = λ _. refl;
+}
+
+pub refused-writes : (state old : List ℕ) (n : ℕ) → 453 ≤ length state
+    → ((T : Draft) (rest : List ℕ) → Lends state T rest → outRefused T (length old) ≡ some n) → Writes state old (Refused n 0) old
+refused-writes state old n h f = record {
+  made = λ T rest l. let q = f T rest l in (
+    sym (ap (λ o. answer WRITTEN (wholly o)) q),
+    sym (ap (λ o. unlessRefused 0 (length (outBytes T)) (wholly o)) q),
+    sym (ap (λ o. buffered (outBytes T) old (wholly o)) q),
+  );
+  kept = λ _ _ _. refl;
+  past = λ _ _. refl;
+  most = refl;
+  short = λ k. absurd (omega arith);
+}
+
+-- bytes past what is written stay
+past-stays : (rs cs qs old : List ℕ) (m : ℕ) → sizeWith rs cs qs ≤ m → drop m (writtenOver old rs cs qs) ≡ drop m old
+past-stays rs cs qs old m h = ap (λ n. drop n (writtenOver old rs cs qs)) (let z : m ≡ length text + (m - k) = omega (arith, long) in z)
+    ∙ drop-append-add text (drop k old) (m - k) ∙ drop-drop (m - k) k old
+    ∙ ap (λ n. drop n old) (let z : k + (m - k) ≡ m = omega arith in z)
+  where
+    k : ℕ
+    k = sizeWith rs cs qs
+
+    text : List ℕ
+    text = withPairs rs cs qs
+
+    long : length text ≡ sizeWith rs cs qs
+    long = with-pairs-long rs cs qs
+
+pub done-writes : (state old rs cs qs : List ℕ) → 453 ≤ length state → sizeWith rs cs qs ≤ 461
+    → ((T : Draft) (rest : List ℕ) → Lends state T rest → (outRefused T (length old) ≡ none) × (sizeWith rs cs qs ≡ length (outBytes T))
+    × (writtenOver old rs cs qs ≡ outBytes T ++ drop (length (outBytes T)) old))
+    → Writes state old (Bytes (sizeWith rs cs qs)) (writtenOver old rs cs qs)
+done-writes state old rs cs qs h k f = record {
+  made = λ T rest l. let q = f T rest l in (
+    sym (ap (λ o. answer WRITTEN (wholly o)) (q .0)),
+    q .1 ∙ sym (ap (λ o. unlessRefused 0 (length (outBytes T)) (wholly o)) (q .0)),
+    q .2 ∙ sym (ap (λ o. buffered (outBytes T) old (wholly o)) (q .0)),
+  );
+  kept = λ a b e. absurd (let y = ap (λ o. ofOutput o .word) e in let x : _≡_ {A = ℕ} 0 1 = cc in omega arith);
+  past = λ m e. let z : sizeWith rs cs qs ≡ m = ap sizeOf e in past-stays rs cs qs old m (omega (arith, z));
+  most = past-stays rs cs qs old 461 k;
+  short = λ m. absurd (omega arith);
+}
+
+-- ---- what the code reads
+module _ (state : List ℕ) (n e : ℕ) (en : n ≡ rolesIn state) (ee : e ≡ entriesIn state)
+    (T : Draft) (rest : List ℕ) (l : Lends state T rest) where
+  abbrev held : Bool
+  held = leb 1 n && (leb 1 e && eqb (byteAt state 2) 1)
+
+  counted : n ≡ length (T .roles)
+  counted = en ∙ roles-count state T rest l
+
+  entered : e ≡ length (T .entries)
+  entered = ee ∙ entries-count state T rest l
+
+  is-whole : whole T ≡ held
+  is-whole = same (sym counted) (sym entered) (sym (root-flag state T rest l))
+    where
+      same : {a b c d : ℕ} {u v : Bool} → a ≡ b → c ≡ d → u ≡ v → (leb 1 a && (leb 1 c && u)) ≡ (leb 1 b && (leb 1 d && v))
+      same p q r = rw (p, q, r) refl
+
+  -- 2
+  pub out-part : (m : ℕ) → held ≡ false → outRefused T m ≡ some 2
+  unfolding outRefused
+  out-part m e = rw (is-whole ∙ e) refl
+
+  -- the three parts are what is written out
+  module _ (k : ℕ) (ek : k ≡ rulesIn state) (rs cs qs : List ℕ) (er : rs ≡ take (3 * n) (drop 4 state))
+      (ec : cs ≡ take (6 * e) (drop 52 state)) (eq : qs ≡ take (1 + k) (drop 436 state)) (old : List ℕ) where
+    out-is : withPairs rs cs qs ≡ outBytes T
+    unfolding outBytes
+    out-is = same (er ∙ roles-read state T rest l n counted) (ec ∙ concepts-read state T rest l e entered)
+        (eq ∙ query-read state T rest l k (ek ∙ rules-count state T rest l))
+      where
+        same : {R R′ C C′ Q Q′ : List ℕ} → R ≡ R′ → C ≡ C′ → Q ≡ Q′ → withPairs R C Q ≡ withPairs R′ C′ Q′
+        same p q r = rw (p, q, r) refl
+
+    out-size : sizeWith rs cs qs ≡ length (outBytes T)
+    out-size = sym (with-pairs-long rs cs qs) ∙ ap length out-is
+
+    pub out-short : held ≡ true → length old < sizeWith rs cs qs → outRefused T (length old) ≡ some 22
+    unfolding outRefused
+    out-short a b = rw (is-whole ∙ a, lt-leb (length (outBytes T)) (length old) (omega (arith, out-size))) refl
+
+    pub out-done : held ≡ true → sizeWith rs cs qs ≤ length old → (outRefused T (length old) ≡ none)
+        × (sizeWith rs cs qs ≡ length (outBytes T)) × (writtenOver old rs cs qs ≡ outBytes T ++ drop (length (outBytes T)) old)
+    unfolding outRefused
+    out-done a b = (
+      rw (is-whole ∙ a, le-leb (length (outBytes T)) (length old) (omega (arith, out-size))) refl,
+      out-size,
+      ap₂ (λ w n. w ++ drop n old) out-is out-size,
+    )
