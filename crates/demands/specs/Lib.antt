@@ -9,3 +9,4 @@ pub mod Steps
 pub mod ClaimExact
 pub mod ClaimTrials
 pub mod WideTrials
+pub mod Writers

@@ -3,9 +3,11 @@ use Prim.Native.Nat.{ℕ, zero, suc, _+_, _-_, _*_, _/_, _≤_, _<_}
 use mathlib.Core.Path.{_≡_, refl, sym, _∙_, ap, subst}
 use mathlib.Core.Logic.{_↔_}
 use mathlib.Core.List.{List, [], _∷_, _++_, map, flatten}
-use mathlib.Core.Option.{some}
+use mathlib.Core.Bool.{true, false≢true}
+use mathlib.Core.Option.{Option, none, some}
 use native.Mathlib.Omega.{arith}
 use native.Mathlib.Nat.{zero-add}
+use native.Mathlib.Numerals.{add-one}
 use lib.ListN.{length, getD, drop, length-append, length-map, length-drop}
 use lib.Seq.{length-take-le, ext-getD}
 use Rattle.logic.specs.Tests.{So, so-and, leb-so}
@@ -14,15 +16,15 @@ use Rattle.parts.specs.Numbers.{byteAt, num2}
 use Rattle.parts.specs.Pairs.{offsetAt, lengthAt, endAt, partAt, pair-inside}
 use Rattle.laying.specs.Places.{Stands, stands-part, stands-append, stands-more, stands-whole, before, before-even, before-all, stands-flatten, at-map, Small, small-in}
 use Rattle.laying.specs.Numbers.{two, two-bytes}
-use Rattle.description.specs.Descriptions.{fieldsOf, top}
+use Rattle.description.specs.Descriptions.{Fields, fieldsOf, top}
 use Rattle.tables.specs.Tables.{fieldsAt}
 use Rattle.labels.specs.Labels.{mostEntries}
 use Rattle.intake.specs.Intake.{rolesPart, conceptsPart, queryPart, described, mostRoles, mostRules, bytesTest, AcceptedBytes, accepted-bytes↔, accepted-sizes}
-use Rattle.editing.specs.Editing.{RoleIn, Draft, Made}
+use Rattle.editing.specs.Editing.{RoleIn, Draft, isSet, rootOf, Made}
 use Rattle.editing.specs.Kept.{Few}
 use Rattle.editing.specs.Reach.{made↔}
 use Rattle.edit_bytes.specs.Out.{roleBytes, entryBytes, rolesOut, conceptsOut, queryOut, pair, withPairs, outBytes, whole}
-use Rattle.edit_bytes.specs.OutLaws.{out-tests, out-accepted}
+use Rattle.edit_bytes.specs.OutLaws.{out-tests, out-accepted, roles-part, concepts-part, query-part, roles-long, concepts-long, byte-of, mask-of, fields-of}
 use Rattle.edit_bytes.specs.OutSmall.{out-small}
 
 abbrev roleOf : List ℕ → ℕ → RoleIn
@@ -189,3 +191,33 @@ out↔ d = (
   λ h. put-in d (h .0) (h .1),
   λ t. (accepted-bytes↔ d .0 (ap bytesTest (sym (t .3)) ∙ out-accepted (t .0) (t .1) (t .2)), subst Small (t .3) (out-small (t .0) (t .1))),
 )
+
+-- ---- and the draft that is read from what was written is the one that was put in
+draft-of : {r r′ : List RoleIn} {e e′ : List Fields} {o o′ : Option ℕ} {u u′ : List ℕ} → r ≡ r′ → e ≡ e′ → o ≡ o′ → u ≡ u′
+    → _≡_ {A = Draft} (record { roles = r; entries = e; root = o; rules = u }) (record { roles = r′; entries = e′; root = o′; rules = u′ })
+draft-of p q s t = rw (p, q, s, t) refl
+
+pub read-back : (T : Draft) → isSet (T .root) ≡ true → draftIn (outBytes T) ≡ T
+read-back T rooted = rw (roles-part T, concepts-part T, query-part T) (draft-of roles entries (root (T .root) rooted) rules)
+  where
+    no-role : RoleIn
+    no-role = record { transitive = 0; parents = 0 }
+
+    some-role : {t t′ m m′ : ℕ} → t ≡ t′ → m ≡ m′ → _≡_ {A = RoleIn} (record { transitive = t; parents = m }) (record { transitive = t′; parents = m′ })
+    some-role p q = rw (p, q) refl
+
+    roles : tabulate (length (rolesOut T) / 3) (roleOf (rolesOut T)) ≡ T .roles
+    roles = let n : length (rolesOut T) / 3 ≡ length (T .roles) = omega (arith, roles-long T) in rw n (ext-getD no-role _ _ (length-tabulate (length (T .roles)) (roleOf (rolesOut T)))
+        (λ i h. at-tabulate (length (T .roles)) (roleOf (rolesOut T)) no-role i (omega (arith, length-tabulate (length (T .roles)) (roleOf (rolesOut T)))) ∙ some-role (byte-of T i) (mask-of T i)))
+
+    entries : tabulate (length (conceptsOut T) / 6) (fieldsAt (conceptsOut T)) ≡ T .entries
+    entries = let n : length (conceptsOut T) / 6 ≡ length (T .entries) = omega (arith, concepts-long T) in rw n (ext-getD (fieldsOf top) _ _ (length-tabulate (length (T .entries)) (fieldsAt (conceptsOut T)))
+        (λ i h. at-tabulate (length (T .entries)) (fieldsAt (conceptsOut T)) (fieldsOf top) i (omega (arith, length-tabulate (length (T .entries)) (fieldsAt (conceptsOut T)))) ∙ fields-of T i))
+
+    root : (o : Option ℕ) → isSet o ≡ true → some (rootOf o) ≡ o
+    root (some l) e = refl
+    root none e = absurd (false≢true e)
+
+    rules : tabulate (length (queryOut T) - 1) (λ i. byteAt (queryOut T) (i + 1)) ≡ T .rules
+    rules = let n : length (queryOut T) - 1 ≡ length (T .rules) = omega arith in rw n (ext-getD 0 _ _ (length-tabulate (length (T .rules)) (λ i. byteAt (queryOut T) (i + 1)))
+        (λ i h. at-tabulate (length (T .rules)) (λ i. byteAt (queryOut T) (i + 1)) 0 i (omega (arith, length-tabulate (length (T .rules)) (λ i. byteAt (queryOut T) (i + 1)))) ∙ rw (add-one i) refl))

@@ -25,8 +25,8 @@ use Rattle.labels.specs.Labels.{mostEntries}
 use Rattle.intake.specs.Intake.{rolesPart, conceptsPart, queryPart, described, mostRoles, mostRules, sizesTest, recordsTest, partsTest, bytesTest}
 use Rattle.intake.specs.Intake as Bytes
 use Rattle.answers.specs.Answers.{wholly, answer, WRITTEN, told↔}
-use Rattle.editing.specs.Editing.{RoleIn, Draft, roleIn, fieldsIn, isSet, rootOf, describes, roleForm, entryForm, broken, Made}
-use Rattle.editing.specs.Kept.{broken-is, tests, made-kept, Few, made-few}
+use Rattle.editing.specs.Editing.{tests, RoleIn, Draft, roleIn, fieldsIn, isSet, rootOf, describes, roleForm, entryForm, broken, Made}
+use Rattle.editing.specs.Kept.{broken-is, made-kept, Few, made-few}
 use Rattle.edit_bytes.specs.Out.{roleBytes, entryBytes, rolesOut, conceptsOut, queryOut, pair, withPairs, outBytes, whole, outRefused, outAnswer}
 
 -- ---- records of k bytes, one after another

@@ -75,12 +75,14 @@ abbrev pub queryKept : Draft → Bool
 queryKept T = (isSet (T .root) ⇒ literalTest (describes T) (describes T .root))
     && allBelow (length (T .rules)) (λ i. literalTest (describes T) (describes T .rule i))
 
--- the smallest number of 3 to 8 that the draft breaks
+-- the first of 3 to 8 that refuses a description, with what 3, 4 and 8 ask beside it; and so of a draft
+abbrev pub tests : (ℕ → Bool) → (ℕ → Bool) → Bool → Description → Option ℕ
+tests roleForm entryForm query D =
+    unless (rolesTest roleForm D) 3 (unless (entriesTest entryForm D) 4
+    (unless (simplesTest D) 5 (unless (distinctsTest D) 6 (unless (everysTest D) 7 (unless query 8 none)))))
+
 unfoldable pub broken : Draft → Option ℕ
-broken T =
-    unless (rolesTest (roleForm T) (describes T)) 3 (unless (entriesTest (entryForm T) (describes T)) 4
-    (unless (simplesTest (describes T)) 5 (unless (distinctsTest (describes T)) 6
-    (unless (everysTest (describes T)) 7 (unless (queryKept T) 8 none)))))
+broken T = tests (roleForm T) (entryForm T) (queryKept T) (describes T)
 
 -- ---- the operations: add a role, an inclusion of r in p, a concept; set the root; add a rule
 pub data Edit : Type 0 where

@@ -19,13 +19,7 @@ use Rattle.labels.specs.Labels.{mostEntries}
 use Rattle.intake.specs.Intake.{mostRoles, mostRules}
 use Rattle.answers.specs.Answers.{wholly, unlessRefused}
 use Rattle.editing.specs.Inclusions.{ParentsIn}
-use Rattle.editing.specs.Editing.{Draft, isSet, describes, roleForm, entryForm, queryKept, broken, Edit, newRole, inclusion, concept, newRoot, newRule, putIn, hasRoom, inTable, refusal, Made, start, next}
-
--- ---- the tests of 3 to 8 in their order, of a description with what they ask beside it
-abbrev pub tests : (ℕ → Bool) → (ℕ → Bool) → Bool → Description → Option ℕ
-tests roleForm entryForm query D =
-    unless (rolesTest roleForm D) 3 (unless (entriesTest entryForm D) 4
-    (unless (simplesTest D) 5 (unless (distinctsTest D) 6 (unless (everysTest D) 7 (unless query 8 none)))))
+use Rattle.editing.specs.Editing.{Draft, isSet, describes, roleForm, entryForm, queryKept, tests, broken, Edit, newRole, inclusion, concept, newRoot, newRule, putIn, hasRoom, inTable, refusal, Made, start, next}
 
 pub broken-is : (T : Draft) → broken T ≡ tests (roleForm T) (entryForm T) (queryKept T) (describes T)
 unfolding broken

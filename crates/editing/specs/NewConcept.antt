@@ -16,8 +16,8 @@ use Rattle.description.specs.Literals.{Literal, entryOf}
 use Rattle.description.specs.Descriptions.{Description, Entry, top, name, both, every, atLeast, Fields, fieldsOf, entryOfFields, sameFields, sameEntry, compound, ifLeast, ifEvery}
 use Rattle.description.specs.Roles.{ancestor, simple}
 use Rattle.description.specs.Acceptance.{entriesTest, entryTest, simplesTest, simpleTest, distinctsTest, distinctTest, everysTest, everyBelowTest}
-use Rattle.editing.specs.Editing.{Draft, isSet, describes, roleForm, entryForm, queryKept, broken, concept, putIn}
-use Rattle.editing.specs.Kept.{Passes, tests, broken-is, all-last, entry-roles, rules-kept}
+use Rattle.editing.specs.Editing.{tests, Draft, isSet, describes, roleForm, entryForm, queryKept, broken, concept, putIn}
+use Rattle.editing.specs.Kept.{Passes, broken-is, all-last, entry-roles, rules-kept}
 
 module _ (T : Draft) (P : Passes T) where
   abbrev D : Description

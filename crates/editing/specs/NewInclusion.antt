@@ -16,8 +16,8 @@ use Rattle.logic.specs.SetLaws.{narrow↔, with↔}
 use Rattle.description.specs.Descriptions.{Description}
 use Rattle.description.specs.Acceptance.{rolesTest, simplesTest, everysTest}
 use Rattle.editing.specs.Inclusions.{including}
-use Rattle.editing.specs.Editing.{RoleIn, Draft, roleIn, describes, roleForm, entryForm, queryKept, broken, inclusion, putIn}
-use Rattle.editing.specs.Kept.{Passes, tests, broken-is, role-fine, parents-in, entries-roles}
+use Rattle.editing.specs.Editing.{tests, RoleIn, Draft, roleIn, describes, roleForm, entryForm, queryKept, broken, inclusion, putIn}
+use Rattle.editing.specs.Kept.{Passes, broken-is, role-fine, parents-in, entries-roles}
 
 module _ (T : Draft) (P : Passes T) where
   abbrev D : Description

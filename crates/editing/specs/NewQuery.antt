@@ -14,8 +14,8 @@ use Rattle.description.specs.Literals.{Literal, literal}
 use Rattle.description.specs.Descriptions.{Description, ifLeast, ifEvery}
 use Rattle.description.specs.Roles.{ancestor, simple}
 use Rattle.description.specs.Acceptance.{simplesTest, everysTest, literalTest}
-use Rattle.editing.specs.Editing.{Draft, isSet, describes, roleForm, entryForm, queryKept, broken, newRoot, newRule, putIn}
-use Rattle.editing.specs.Kept.{Passes, tests, broken-is, all-last, entries-roles, rules-kept}
+use Rattle.editing.specs.Editing.{tests, Draft, isSet, describes, roleForm, entryForm, queryKept, broken, newRoot, newRule, putIn}
+use Rattle.editing.specs.Kept.{Passes, broken-is, all-last, entries-roles, rules-kept}
 
 module _ (T : Draft) (P : Passes T) where
   abbrev D : Description

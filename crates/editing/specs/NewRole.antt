@@ -20,8 +20,8 @@ use Rattle.description.specs.Descriptions.{Description, included, Entry, top, n
 use Rattle.description.specs.Roles.{ancestor, simple, anc-refl, parent-anc, anc-ind, anc-trans}
 use Rattle.description.specs.Acceptance.{rolesTest, entriesTest, entryTest, entry↔, simplesTest, everysTest}
 use Rattle.editing.specs.Inclusions.{ParentsIn}
-use Rattle.editing.specs.Editing.{RoleIn, Draft, roleIn, describes, roleForm, entryForm, queryKept, broken, newRole, putIn}
-use Rattle.editing.specs.Kept.{Passes, tests, broken-is, all-last, role-fine, parents-in}
+use Rattle.editing.specs.Editing.{tests, RoleIn, Draft, roleIn, describes, roleForm, entryForm, queryKept, broken, newRole, putIn}
+use Rattle.editing.specs.Kept.{Passes, broken-is, all-last, role-fine, parents-in}
 
 module _ (T : Draft) (P : Passes T) where
   abbrev D : Description

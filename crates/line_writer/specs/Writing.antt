@@ -1,6 +1,6 @@
 -- The line writer (01, "The written line"; FORMAT 7, 8): what it refuses, what it answers, and all bytes of the buffer afterwards.
 use Prim.Native.Nat.{ℕ, _≤_}
-use mathlib.Core.Path.{_≡_, refl, sym, ap}
+use mathlib.Core.Path.{_≡_, refl}
 use mathlib.Core.Logic.{_↔_}
 use mathlib.Core.List.{List, _++_}
 use mathlib.Core.Option.{Option, none}
@@ -8,11 +8,10 @@ use native.Mathlib.Omega.{arith}
 use lib.Dec.{leb}
 use lib.ListN.{length, drop}
 use Rattle.logic.specs.Tests.{reading}
-use Rattle.logic.specs.Lists.{length-tabulate}
 use Rattle.logic.specs.Refusals.{Refusal, unless, unless↔, refuse, refuse↔, firstOf, first↔}
 use Rattle.interpretation.specs.Meaning.{Interpretation}
 use Rattle.graph.specs.Line.{line}
-use Rattle.lines.specs.Lines.{nameSize, lineLength, mostElements, lineByte, lineBytes}
+use Rattle.lines.specs.Lines.{nameSize, lineLength, mostElements, lineBytes}
 use Rattle.description.specs.Descriptions.{wanted}
 use Rattle.intake.specs.Intake.{described, AcceptedBytes}
 use Rattle.evidence.specs.Evidence.{layoutOf, graphIn}
@@ -20,7 +19,7 @@ use Rattle.graph_check.specs.GraphEvidence.{graphRefused, GraphKept, not-refuse
 use Rattle.answers.specs.declared.Written.{Written}
 use Rattle.answers.specs.declared.Written.the-variants.{Line}
 use Rattle.answers.specs.Answers as Case
-use Rattle.answers.specs.Answers.{ofWritten, lengthOf, case-when, Answer, answer, WRITTEN, told↔, unlessRefused, buffered}
+use Rattle.answers.specs.Answers.{ofWritten, lengthOf, case-when, Answer, answer, WRITTEN, told↔, unlessRefused}
 
 -- the line of the graph that the evidence is
 abbrev pub lineOf : List ℕ → List ℕ → Interpretation
@@ -45,16 +44,9 @@ writeAnswer d s n = answer WRITTEN (writeRefused d s n)
 abbrev pub writeLength : List ℕ → List ℕ → ℕ → ℕ
 writeLength d s n = unlessRefused 0 (lineSize d s) (writeRefused d s n)
 
--- the buffer afterwards: the bytes of the line and then the old bytes; on a refusal all is as before
+-- the buffer afterwards: the bytes of the line and then the old bytes; on a refusal all is as before (`demands/Writers`: the law of every writer)
 abbrev pub bufferAfter : List ℕ → List ℕ → List ℕ → List ℕ
 bufferAfter d s old = unlessRefused old (lineBytes (described d) (lineOf d s) ++ drop (lineSize d s) old) (writeRefused d s (length old))
-
--- which is the law of every writer
-pub buffer-after : (d s old : List ℕ) → bufferAfter d s old ≡ buffered (lineBytes (described d) (lineOf d s)) old (writeRefused d s (length old))
-buffer-after d s old = ap (λ n. unlessRefused old (line ++ drop n old) (writeRefused d s (length old))) (sym (length-tabulate (lineSize d s) (lineByte (described d) (lineOf d s))))
-  where
-    line : List ℕ
-    line = lineBytes (described d) (lineOf d s)
 
 -- ---- exactly when
 pub written↔ : (d s : List ℕ) (n : ℕ) → (writeAnswer d s n ≡ answer WRITTEN none)
