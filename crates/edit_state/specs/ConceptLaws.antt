@@ -3,6 +3,7 @@ use Prim.Native.Nat.{ℕ, suc, _+_, _*_, _%_, _≤_, _<_}
 use mathlib.Core.Path.{_≡_, refl, sym, _∙_, ap, ap₂}
 use mathlib.Core.Bool.{Bool, true, false, not, cond, _&&_}
 use mathlib.Core.List.{List, [], _∷_, _++_}
+use mathlib.Core.Logic.{inl, inr}
 use mathlib.Core.Option.{none, some}
 use native.Mathlib.Omega.{arith}
 use native.Mathlib.Nat.{mod-eq-of-lt}
@@ -25,6 +26,7 @@ use Rattle.roles.specs.declared.Role.{Role}
 use Rattle.roles.specs.Records.{roleTable}
 use Rattle.intake.specs.Everys.{everyAt}
 use Rattle.intake.specs.Steps.{simpleAt, twinAt, fields-are}
+use Rattle.answers.specs.declared.Change.{Change}
 use Rattle.answers.specs.declared.Change.the-variants.{Done, Refused}
 use Rattle.answers.specs.Answers.{wholly, answer, DONE, ofChange}
 use Rattle.editing.specs.Editing.{Draft, isSet, describes, entryForm, concept, putIn, refusal, Made}
@@ -34,7 +36,8 @@ use Rattle.editing.specs.Answers.{concept-answers}
 use Rattle.edit_bytes.specs.Out.{entryBytes, rolesOut, conceptsOut, queryOut}
 use Rattle.edit_bytes.specs.OutLaws.{concepts-long}
 use Rattle.edit_lay.specs.Lays.{sixBytes}
-use Rattle.edit_state.specs.Lent.{filled, flag, inBytes, draftBytes, Lends, rolesIn, entriesIn, tableIn, lastTest}
+use Rattle.edit_state.specs.Lent.{rolesRoom, conceptsRoom, queryRoom, conceptsFrom, filled, flag, inBytes, draftBytes, Lends}
+use Rattle.edit_state.specs.Lent.{rolesIn, entriesIn, tableIn, lastTest, Told}
 use Rattle.edit_state.specs.FillLaws.{filled-on, filled-first, filled-front, bytes-snoc}
 use Rattle.edit_state.specs.PlaceLaws.{roles-count, entries-count, concepts-read, table-read, concepts-laid}
 use Rattle.edit_state.specs.TestLaws.{simple-held, distinct-held, every-held}
@@ -54,6 +57,15 @@ last-answers true true true = refl
 last-answers true true false = refl
 last-answers true false c = refl
 last-answers false b c = refl
+
+pub last-told : (cs : List ℕ) (e : ℕ) (t : List Role) (n : ℕ) (r : Change) → r ≡ lastTest cs e t n → Told DONE (ofChange r)
+last-told cs e t n r q = rw q (one-of (simpleAt cs t e) (allBelow e (λ f. not (twinAt cs e f))) (everyAt cs t n e))
+  where
+    one-of : (a b c : Bool) → Told DONE (ofChange (cond a (cond b (cond c Done (Refused 7 0)) (Refused 6 0)) (Refused 5 0)))
+    one-of true true true = inl refl
+    one-of true true false = inr (7, omega arith, refl)
+    one-of true false c = inr (6, omega arith, refl)
+    one-of false b c = inr (5, omega arith, refl)
 
 -- ---- with 4 passed
 module _ (T : Draft) (made : Made T) (f : Code.Fields) (room : length (T .entries) < mostEntries)
@@ -77,11 +89,11 @@ module _ (T : Draft) (made : Made T) (f : Code.Fields) (room : length (T .entrie
   longer : length (U .entries) ≡ suc n
   longer = length-snoc (T .entries) F
 
-  entry-laid : laid (filled 384 (conceptsOut T)) (6 * n) (sixBytes f) ≡ filled 384 (conceptsOut U)
+  entry-laid : laid (filled conceptsRoom (conceptsOut T)) (6 * n) (sixBytes f) ≡ filled conceptsRoom (conceptsOut U)
   unfolding conceptsOut
-  entry-laid = ap (laid (filled 384 (conceptsOut T)) (6 * n)) six-are
-      ∙ filled-on 384 (conceptsOut T) (entryBytes F) (6 * n) (sym (concepts-long T)) (omega (arith, concepts-long T, room))
-      ∙ ap (filled 384) (sym (bytes-snoc 6 entryBytes (λ _. refl) (T .entries) F))
+  entry-laid = ap (laid (filled conceptsRoom (conceptsOut T)) (6 * n)) six-are
+      ∙ filled-on conceptsRoom (conceptsOut T) (entryBytes F) (6 * n) (sym (concepts-long T)) (omega (arith, concepts-long T, room))
+      ∙ ap (filled conceptsRoom) (sym (bytes-snoc 6 entryBytes (λ _. refl) (T .entries) F))
 
   few : Few U
   few = let m = made-few T made in (m .0, omega (arith, longer, room), m .2)
@@ -147,8 +159,8 @@ module _ (old : List ℕ) (f : Code.Fields) (n e : ℕ) (en : n ≡ rolesIn old)
         sym (fields-are (describes T) (length (T .entries)) (fieldsIn f)) ∙ fields-is ∙ a,
       ) refl
 
-  pub concept-last : (there cs : List ℕ) (t : List Role) → there ≡ take (6 * e) (drop 52 old)
-      → cs ≡ take (6 * e + 6) (drop 0 (laid (laid (replicate 384 0) 0 there) (6 * e) (sixBytes f))) → t ≡ tableIn old
+  pub concept-last : (there cs : List ℕ) (t : List Role) → there ≡ take (6 * e) (drop conceptsFrom old)
+      → cs ≡ take (6 * e + 6) (drop 0 (laid (laid (replicate conceptsRoom 0) 0 there) (6 * e) (sixBytes f))) → t ≡ tableIn old
       → e < mostEntries → fieldsTest n e (fieldsIn f) ≡ true
       → ofChange (lastTest cs e t (upTo 16 n)) ≡ answer DONE (wholly (refusal T (concept (fieldsIn f))))
   concept-last there cs t et ec eq room four =
@@ -164,23 +176,24 @@ module _ (old : List ℕ) (f : Code.Fields) (n e : ℕ) (en : n ≡ rolesIn old)
       there-is = et ∙ concepts-read old T rest w e entered
 
       cs-is : cs ≡ conceptsOut (U T (w .made) f room′ four′)
-      cs-is = ec ∙ ap₂ (λ x e. take (6 * e + 6) (drop 0 (laid (laid (replicate 384 0) 0 x) (6 * e) (sixBytes f)))) there-is entered
+      cs-is = ec ∙ ap₂ (λ x e. take (6 * e + 6) (drop 0 (laid (laid (replicate conceptsRoom 0) 0 x) (6 * e) (sixBytes f)))) there-is entered
           ∙ ap (λ b. take (6 * length (T .entries) + 6) (drop 0 (laid b (6 * length (T .entries)) (sixBytes f))))
-          (filled-first 384 (conceptsOut T) (omega (arith, concepts-long T, room′)))
+          (filled-first conceptsRoom (conceptsOut T) (omega (arith, concepts-long T, room′)))
           ∙ ap (λ b. take (6 * length (T .entries) + 6) (drop 0 b)) (entry-laid T (w .made) f room′ four′)
-          ∙ filled-front 384 (conceptsOut (U T (w .made) f room′ four′)) (6 * length (T .entries) + 6)
+          ∙ filled-front conceptsRoom (conceptsOut (U T (w .made) f room′ four′)) (6 * length (T .entries) + 6)
           (omega (arith, concepts-long (U T (w .made) f room′ four′), longer T (w .made) f room′ four′))
 
 -- what is laid if nothing refuses
 pub concept-put : (old : List ℕ) (f : Code.Fields) (e : ℕ) → e ≡ entriesIn old → (T : Draft) (rest : List ℕ) → Lends old T rest
     → refusal T (concept (fieldsIn f)) ≡ none
-    → laid (set old 1 (e + 1)) (52 + 6 * e) (sixBytes f) ≡ draftBytes (putIn T (concept (fieldsIn f))) ++ rest
+    → laid (set old 1 (e + 1)) (conceptsFrom + 6 * e) (sixBytes f) ≡ draftBytes (putIn T (concept (fieldsIn f))) ++ rest
 unfolding draftBytes rolesOut
-concept-put old f e ee T rest w a = ap₂ (λ o e. laid (set o 1 (e + 1)) (52 + 6 * e) (sixBytes f)) (w .same) (ee ∙ entries-count old T rest w)
+concept-put old f e ee T rest w a = ap₂ (λ o e. laid (set o 1 (e + 1)) (conceptsFrom + 6 * e) (sixBytes f)) (w .same) (ee
+    ∙ entries-count old T rest w)
     ∙ concepts-laid T (w .made) (length (T .roles)) (length (T .entries) + 1) (flag (isSet (T .root))) (length (T .rules)) rest
     (6 * length (T .entries)) (sixBytes f) (omega (arith, room))
-    ∙ ap₂ (λ m cs. inBytes (length (T .roles)) m (flag (isSet (T .root))) (length (T .rules)) (filled 48 (rolesOut T)) cs
-    (filled 17 (queryOut T)) ++ rest)
+    ∙ ap₂ (λ m cs. inBytes (length (T .roles)) m (flag (isSet (T .root))) (length (T .rules)) (filled rolesRoom (rolesOut T)) cs
+    (filled queryRoom (queryOut T)) ++ rest)
     (let z : length (T .entries) + 1 ≡ length (T .entries ++ (F ∷ [])) = omega (arith, length-snoc (T .entries) F) in z)
     (entry-laid T (w .made) f room four)
   where

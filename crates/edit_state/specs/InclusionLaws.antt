@@ -24,7 +24,8 @@ use Rattle.editing.specs.Answers.{inclusion-answers}
 use Rattle.edit_bytes.specs.Out.{roleBytes, rolesOut, conceptsOut, queryOut}
 use Rattle.edit_bytes.specs.OutLaws.{roles-long, byte-of, mask-of}
 use Rattle.edit_lay.specs.Lays.{withParent}
-use Rattle.edit_state.specs.Lent.{filled, flag, inBytes, draftBytes, Lends, rolesIn, entriesIn, tableWith}
+use Rattle.edit_state.specs.Lent.{rolesRoom, conceptsRoom, queryRoom, rolesFrom, conceptsFrom, filled, flag, inBytes, draftBytes}
+use Rattle.edit_state.specs.Lent.{Lends, rolesIn, entriesIn, tableWith}
 use Rattle.edit_state.specs.FillLaws.{filled-front, filled-first, filled-set}
 use Rattle.edit_state.specs.PlaceLaws.{roles-count, entries-count, roles-read, concepts-read, role-byte-read, roles-laid}
 use Rattle.edit_state.specs.TestLaws.{simples-held, everys-held}
@@ -57,26 +58,26 @@ module _ (T : Draft) (m : Made T) (r p : ℕ) (i : (ltb r (length (T .roles)) &&
   as-many = length-set (T .roles) r changed
 
   -- the three bytes, wherever they are read
-  three-are : (t a b : ℕ) → t ≡ byteAt (filled 48 (rolesOut T)) (3 * r) → a ≡ byteAt (filled 48 (rolesOut T)) (3 * r + 1)
-      → b ≡ byteAt (filled 48 (rolesOut T)) (3 * r + 1 + 1) → (t ∷ two (with (a * 256 + b) p)) ≡ roleBytes changed
+  three-are : (t a b : ℕ) → t ≡ byteAt (filled rolesRoom (rolesOut T)) (3 * r) → a ≡ byteAt (filled rolesRoom (rolesOut T)) (3 * r + 1)
+      → b ≡ byteAt (filled rolesRoom (rolesOut T)) (3 * r + 1 + 1) → (t ∷ two (with (a * 256 + b) p)) ≡ roleBytes changed
   three-are t a b e f g = ap₂ (λ t m. t ∷ two (with m p))
-      (e ∙ byte-filled 48 (rolesOut T) (3 * r) (omega (arith, hr, roles-long T)) ∙ byte-of T r)
-      (ap₂ (λ (a b : ℕ). a * 256 + b) (f ∙ byte-filled 48 (rolesOut T) (3 * r + 1) (omega (arith, hr, roles-long T)))
-      (g ∙ byte-filled 48 (rolesOut T) (3 * r + 1 + 1) (omega (arith, hr, roles-long T))) ∙ mask-of T r)
+      (e ∙ byte-filled rolesRoom (rolesOut T) (3 * r) (omega (arith, hr, roles-long T)) ∙ byte-of T r)
+      (ap₂ (λ (a b : ℕ). a * 256 + b) (f ∙ byte-filled rolesRoom (rolesOut T) (3 * r + 1) (omega (arith, hr, roles-long T)))
+      (g ∙ byte-filled rolesRoom (rolesOut T) (3 * r + 1 + 1) (omega (arith, hr, roles-long T))) ∙ mask-of T r)
 
-  role-laid : laid (filled 48 (rolesOut T)) (3 * r) (roleBytes changed) ≡ filled 48 (rolesOut U)
+  role-laid : laid (filled rolesRoom (rolesOut T)) (3 * r) (roleBytes changed) ≡ filled rolesRoom (rolesOut U)
   unfolding rolesOut
-  role-laid = filled-set 3 roleBytes (λ R. refl) 48 (T .roles) r changed hr (omega (arith, roles-long U, roles-long T, as-many))
+  role-laid = filled-set 3 roleBytes (λ R. refl) rolesRoom (T .roles) r changed hr (omega (arith, roles-long U, roles-long T, as-many))
 
-  parent-laid : withParent (filled 48 (rolesOut T)) (3 * r) p ≡ filled 48 (rolesOut U)
-  parent-laid = ap (laid (filled 48 (rolesOut T)) (3 * r)) (three-are _ _ _ refl refl refl) ∙ role-laid
+  parent-laid : withParent (filled rolesRoom (rolesOut T)) (3 * r) p ≡ filled rolesRoom (rolesOut U)
+  parent-laid = ap (laid (filled rolesRoom (rolesOut T)) (3 * r)) (three-are _ _ _ refl refl refl) ∙ role-laid
 
   table-is : tableWith (rolesOut T) (r % 16) (p % 16) ≡ roleTable (rolesOut U)
   table-is = ap₂ (tableWith (rolesOut T)) same-r same-p
       ∙ ap (λ b. roleTable (take (length (rolesOut T)) (drop 0 (withParent b (3 * r) p))))
-      (filled-first 48 (rolesOut T) (omega (arith, roles-long T, made-few T m)))
+      (filled-first rolesRoom (rolesOut T) (omega (arith, roles-long T, made-few T m)))
       ∙ ap (λ b. roleTable (take (length (rolesOut T)) (drop 0 b))) parent-laid
-      ∙ ap roleTable (filled-front 48 (rolesOut U) (length (rolesOut T)) (omega (arith, roles-long U, roles-long T, as-many)))
+      ∙ ap roleTable (filled-front rolesRoom (rolesOut U) (length (rolesOut T)) (omega (arith, roles-long U, roles-long T, as-many)))
 
   few : Few U
   few = let w = made-few T m in (omega (arith, as-many), w .1, w .2)
@@ -104,8 +105,8 @@ module _ (old : List ℕ) (r p n : ℕ) (e : n ≡ rolesIn old) (T : Draft) (res
   pub inclusion-past : (ltb r n && ltb p n) ≡ false → refusal T (inclusion r p) ≡ some 3
   inclusion-past i = inclusion-answers T (w .made) r p ∙ rw (same-test ∙ i) refl
 
-  module _ (rs cs : List ℕ) (t : List Role) (k : ℕ) (er : rs ≡ take (3 * n) (drop 4 old)) (ek : k ≡ entriesIn old)
-      (ec : cs ≡ take (6 * k) (drop 52 old)) (et : t ≡ tableWith rs (r % 16) (p % 16)) (i : (ltb r n && ltb p n) ≡ true) where
+  module _ (rs cs : List ℕ) (t : List Role) (k : ℕ) (er : rs ≡ take (3 * n) (drop rolesFrom old)) (ek : k ≡ entriesIn old)
+      (ec : cs ≡ take (6 * k) (drop conceptsFrom old)) (et : t ≡ tableWith rs (r % 16) (p % 16)) (i : (ltb r n && ltb p n) ≡ true) where
     table : t ≡ tableWith (rolesOut T) (r % 16) (p % 16)
     table = et ∙ ap (λ rs. tableWith rs (r % 16) (p % 16)) (er ∙ roles-read old T rest w n counted)
 
@@ -131,17 +132,18 @@ module _ (old : List ℕ) (r p n : ℕ) (e : n ≡ rolesIn old) (T : Draft) (res
 
 -- what is laid if nothing refuses
 pub inclusion-put : (old : List ℕ) (r p : ℕ) (T : Draft) (rest : List ℕ) → Lends old T rest → refusal T (inclusion r p) ≡ none
-    → withParent old (4 + 3 * (r % 16)) (p % 16) ≡ draftBytes (putIn T (inclusion r p)) ++ rest
+    → withParent old (rolesFrom + 3 * (r % 16)) (p % 16) ≡ draftBytes (putIn T (inclusion r p)) ++ rest
 unfolding draftBytes conceptsOut
-inclusion-put old r p T rest w a = ap₂ (λ r p. withParent old (4 + 3 * r) p) (same-r T (w .made) r p i) (same-p T (w .made) r p i)
-    ∙ ap (laid old (4 + 3 * r)) (three-are T (w .made) r p i _ _ _ (read (3 * r) (omega (arith, small)))
-    (ap (byteAt old) (let z : 4 + 3 * r + 1 ≡ 4 + (3 * r + 1) = omega arith in z) ∙ read (3 * r + 1) (omega (arith, small)))
-    (ap (byteAt old) (let z : 4 + 3 * r + 1 + 1 ≡ 4 + (3 * r + 1 + 1) = omega arith in z) ∙ read (3 * r + 1 + 1) (omega (arith, small))))
-    ∙ ap (λ o. laid o (4 + 3 * r) new) (w .same)
+inclusion-put old r p T rest w a = ap₂ (λ r p. withParent old (rolesFrom + 3 * r) p) (same-r T (w .made) r p i) (same-p T (w .made) r p i)
+    ∙ ap (laid old (rolesFrom + 3 * r)) (three-are T (w .made) r p i _ _ _ (read (3 * r) (omega (arith, small)))
+    (ap (byteAt old) (let z : rolesFrom + 3 * r + 1 ≡ rolesFrom + (3 * r + 1) = omega arith in z) ∙ read (3 * r + 1) (omega (arith, small)))
+    (ap (byteAt old) (let z : rolesFrom + 3 * r + 1 + 1 ≡ rolesFrom + (3 * r + 1 + 1) = omega arith in z) ∙ read (3 * r + 1 + 1) (omega
+    (arith, small))))
+    ∙ ap (λ o. laid o (rolesFrom + 3 * r) new) (w .same)
     ∙ roles-laid T (w .made) (length (T .roles)) (length (T .entries)) (flag (isSet (T .root))) (length (T .rules)) rest
     (3 * r) new (omega (arith, small))
-    ∙ ap₂ (λ n rs. inBytes n (length (T .entries)) (flag (isSet (T .root))) (length (T .rules)) rs (filled 384 (conceptsOut T))
-    (filled 17 (queryOut T)) ++ rest) (sym (as-many T (w .made) r p i)) (role-laid T (w .made) r p i)
+    ∙ ap₂ (λ n rs. inBytes n (length (T .entries)) (flag (isSet (T .root))) (length (T .rules)) rs (filled conceptsRoom (conceptsOut T))
+    (filled queryRoom (queryOut T)) ++ rest) (sym (as-many T (w .made) r p i)) (role-laid T (w .made) r p i)
   where
     i : (ltb r (length (T .roles)) && ltb p (length (T .roles))) ≡ true
     i = unless↔ (ltb r (length (T .roles)) && ltb p (length (T .roles))) 3 _ .0 (sym (inclusion-answers T (w .made) r p) ∙ a) .0
@@ -152,5 +154,5 @@ inclusion-put old r p T rest w a = ap₂ (λ r p. withParent old (4 + 3 * r) p) 
     new : List ℕ
     new = roleBytes (changed T (w .made) r p i)
 
-    read : (j : ℕ) → j < 48 → byteAt old (4 + j) ≡ byteAt (filled 48 (rolesOut T)) j
+    read : (j : ℕ) → j < rolesRoom → byteAt old (rolesFrom + j) ≡ byteAt (filled rolesRoom (rolesOut T)) j
     read = role-byte-read old T rest w

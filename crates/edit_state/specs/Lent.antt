@@ -1,9 +1,11 @@
 -- The editor's state in bytes, as a caller lends it (02, job 4): four numbers, then the three parts with 0 behind what is there; and what
 -- each operation does to them.
-use Prim.Native.Nat.{ℕ, _-_, _*_, _≤_, _<_}
+use Prim.Native.Nat.{ℕ, _+_, _-_, _*_, _≤_, _<_}
 use mathlib.Core.Path.{_≡_}
 use mathlib.Core.Bool.{Bool, true, false, not, cond}
+use mathlib.Core.Logic.{_⊎_}
 use mathlib.Core.List.{List, [], _∷_, _++_}
+use mathlib.Core.Option.{none, some}
 use lib.ListN.{length, replicate, take, drop}
 use Rattle.logic.specs.Bounded.{allBelow}
 use Rattle.parts.specs.Numbers.{byteAt, upTo}
@@ -13,7 +15,7 @@ use Rattle.roles.specs.Records.{roleTable}
 use Rattle.answers.specs.declared.Change.{Change}
 use Rattle.answers.specs.declared.Change.the-variants.{Done, Refused}
 use Rattle.answers.specs.declared.Output as Outputs
-use Rattle.answers.specs.Answers.{wholly, answer, DONE, ofChange, ofOutput, sizeOf}
+use Rattle.answers.specs.Answers.{wholly, Word, REFUSED, DONE, WRITTEN, Answer, answer, ofChange, ofOutput, sizeOf}
 use Rattle.intake.specs.Everys.{everyAt}
 use Rattle.intake.specs.Steps.{simpleAt, twinAt}
 use Rattle.edit_lay.specs.Lays.{withParent}
@@ -21,6 +23,35 @@ use Rattle.editing.specs.Editing.{Draft, isSet, nothing, Edit, refusal, edited,
 use Rattle.edit_bytes.specs.Out.{rolesOut, conceptsOut, queryOut, outAnswer, outLength, outBuffer}
 
 -- ---- the bytes of a draft
+-- how many bytes each part may have, where it begins behind the four numbers, and where the last ends
+abbrev pub rolesRoom : ℕ
+rolesRoom = 48
+
+abbrev pub conceptsRoom : ℕ
+conceptsRoom = 384
+
+abbrev pub queryRoom : ℕ
+queryRoom = 17
+
+abbrev pub rolesFrom : ℕ
+rolesFrom = 4
+
+abbrev pub conceptsFrom : ℕ
+conceptsFrom = rolesFrom + rolesRoom
+
+abbrev pub queryFrom : ℕ
+queryFrom = conceptsFrom + conceptsRoom
+
+abbrev pub rulesFrom : ℕ
+rulesFrom = queryFrom + 1
+
+abbrev pub stateBytes : ℕ
+stateBytes = queryFrom + queryRoom
+
+-- the longest description that is written out: the pairs and the parts
+abbrev pub outMost : ℕ
+outMost = 12 + rolesRoom + conceptsRoom + queryRoom
+
 -- an array of that size: the bytes, and then 0
 unfoldable pub filled : ℕ → List ℕ → List ℕ
 filled size x = x ++ replicate (size - length x) 0
@@ -36,7 +67,7 @@ inBytes n m rooted k rs cs qs = (n ∷ m ∷ rooted ∷ k ∷ []) ++ rs ++ cs ++
 
 unfoldable pub draftBytes : Draft → List ℕ
 draftBytes T = inBytes (length (T .roles)) (length (T .entries)) (flag (isSet (T .root))) (length (T .rules))
-    (filled 48 (rolesOut T)) (filled 384 (conceptsOut T)) (filled 17 (queryOut T))
+    (filled rolesRoom (rolesOut T)) (filled conceptsRoom (conceptsOut T)) (filled queryRoom (queryOut T))
 
 -- the bytes lent are those of a draft that is made by the operations alone, and the rest
 pub record Lends (bytes : List ℕ) (T : Draft) (rest : List ℕ) : Type 0 where
@@ -54,11 +85,15 @@ abbrev pub rulesIn : List ℕ → ℕ
 rulesIn bytes = upTo 16 (byteAt bytes 3)
 
 abbrev pub tableIn : List ℕ → List Role
-tableIn bytes = roleTable (take (3 * rolesIn bytes) (drop 4 bytes))
+tableIn bytes = roleTable (take (3 * rolesIn bytes) (drop rolesFrom bytes))
+
+-- how many bytes are written out
+abbrev pub sizeIn : List ℕ → ℕ
+sizeIn bytes = 13 + 3 * rolesIn bytes + 6 * entriesIn bytes + rulesIn bytes
 
 -- the records of these roles with the bit of p in the parents of r
 abbrev pub tableWith : List ℕ → ℕ → ℕ → List Role
-tableWith rs r p = roleTable (take (length rs) (drop 0 (withParent (laid (replicate 48 0) 0 rs) (3 * r) p)))
+tableWith rs r p = roleTable (take (length rs) (drop 0 (withParent (laid (replicate rolesRoom 0) 0 rs) (3 * r) p)))
 
 -- 5, 6 and 7 of the last of the entries
 abbrev pub lastTest : List ℕ → ℕ → List Role → ℕ → Change
@@ -66,15 +101,20 @@ lastTest cs e t n = cond (simpleAt cs t e)
     (cond (allBelow e (λ f. not (twinAt cs e f))) (cond (everyAt cs t n e) Done (Refused 7 0)) (Refused 6 0)) (Refused 5 0)
 
 -- ---- what an operation does
--- of every bytes: a refusal leaves them all, nothing behind the state's 453 changes, and fewer are refused with 22
+-- what is told: the word, or a refusal by one of the numbers up to 25, of record 0
+abbrev pub Told : Word → Answer → Type 0
+Told w a = (a ≡ answer w none) ⊎ ((n : ℕ) × (n ≤ 25) × (a ≡ answer REFUSED (wholly (some n))))
+
+-- of every bytes: something is told, a refusal leaves them all, nothing behind the state's changes, and fewer are refused with 22
 pub record Keeps (old : List ℕ) (r : Change) (new : List ℕ) : Type 0 where
+  pub told : Told DONE (ofChange r)
   pub kept : (n m : ℕ) → r ≡ Refused n m → new ≡ old
-  pub beyond : drop 453 new ≡ drop 453 old
-  pub short : length old < 453 → r ≡ Refused 22 0
+  pub beyond : drop stateBytes new ≡ drop stateBytes old
+  pub short : length old < stateBytes → r ≡ Refused 22 0
 
 -- the start: nothing is put in
 pub record Starts (old : List ℕ) (r : Change) (new : List ℕ) : Type 0 where
-  pub begun : 453 ≤ length old → (r ≡ Done) × (new ≡ draftBytes nothing ++ drop 453 old)
+  pub begun : stateBytes ≤ length old → (r ≡ Done) × (new ≡ draftBytes nothing ++ drop stateBytes old)
   pub keeps : Keeps old r new
 
 -- an operation: of the bytes of a draft that is made by the operations alone, the answer and the bytes of the draft after it
@@ -84,15 +124,18 @@ pub record Edits (e : Edit) (old : List ℕ) (r : Change) (new : List ℕ) : Typ
   pub keeps : Keeps old r new
 
 -- the answer of an operation, before anything is changed
-abbrev pub Judges : Edit → List ℕ → Change → Type 0
-Judges e bytes r = (T : Draft) (rest : List ℕ) → Lends bytes T rest → ofChange r ≡ answer DONE (wholly (refusal T e))
+pub record Judges (e : Edit) (bytes : List ℕ) (r : Change) : Type 0 where
+  pub made : (T : Draft) (rest : List ℕ) → Lends bytes T rest → ofChange r ≡ answer DONE (wholly (refusal T e))
+  pub told : Told DONE (ofChange r)
 
--- writing out: of such bytes, the answer, how many bytes, and all bytes of the buffer; of every bytes, a refusal leaves the buffer, and
--- nothing behind what is written changes, nor anything past 461
+-- writing out: of such bytes, the answer, how many bytes, and all bytes of the buffer; of every bytes, something is told, a refusal leaves
+-- the buffer, and nothing behind what is written changes, nor anything behind the longest output
 pub record Writes (state old : List ℕ) (r : Outputs.Output) (new : List ℕ) : Type 0 where
   pub made : (T : Draft) (rest : List ℕ) → Lends state T rest
       → (ofOutput r ≡ outAnswer T (length old)) × (sizeOf r ≡ outLength T (length old)) × (new ≡ outBuffer T old)
+  pub told : Told WRITTEN (ofOutput r)
   pub kept : (n m : ℕ) → r ≡ Outputs.the-variants.Refused n m → new ≡ old
-  pub past : (n : ℕ) → r ≡ Outputs.the-variants.Bytes n → drop n new ≡ drop n old
-  pub most : drop 461 new ≡ drop 461 old
-  pub short : length state < 453 → r ≡ Outputs.the-variants.Refused 22 0
+  pub size : (n : ℕ) → r ≡ Outputs.the-variants.Bytes n → n ≡ sizeIn state
+  pub past : drop (sizeIn state) new ≡ drop (sizeIn state) old
+  pub most : drop outMost new ≡ drop outMost old
+  pub short : length state < stateBytes → r ≡ Outputs.the-variants.Refused 22 0

@@ -14,65 +14,68 @@ use Rattle.editing.specs.Editing.{Draft, isSet, Made}
 use Rattle.editing.specs.Kept.{made-few}
 use Rattle.edit_bytes.specs.Out.{rolesOut, conceptsOut, queryOut}
 use Rattle.edit_bytes.specs.OutLaws.{roles-long, concepts-long}
-use Rattle.edit_state.specs.Lent.{filled, flag, inBytes, draftBytes, Lends, rolesIn, entriesIn, rulesIn, tableIn}
+use Rattle.edit_state.specs.Lent.{rolesRoom, conceptsRoom, queryRoom, rolesFrom, conceptsFrom, queryFrom, stateBytes, filled, flag}
+use Rattle.edit_state.specs.Lent.{inBytes, draftBytes, Lends, rolesIn, entriesIn, rulesIn, tableIn}
 use Rattle.edit_state.specs.FillLaws.{filled-front, filled-long, laid-behind, laid-front}
 
 -- ---- three parts behind four numbers
-module _ (ns rs cs qs rest : List ℕ) (a : length ns ≡ 4) (b : length rs ≡ 48) (c : length cs ≡ 384) where
-  two-long : length (ns ++ rs) ≡ 52
+module _ (ns rs cs qs rest : List ℕ) (a : length ns ≡ rolesFrom) (b : length rs ≡ rolesRoom) (c : length cs ≡ conceptsRoom) where
+  two-long : length (ns ++ rs) ≡ conceptsFrom
   two-long = omega (arith, a, b, length-append ns rs)
 
-  three-long : length (ns ++ rs ++ cs) ≡ 436
+  three-long : length (ns ++ rs ++ cs) ≡ queryFrom
   three-long = omega (arith, c, two-long, length-append (ns ++ rs) cs)
 
-  four-long : length (ns ++ rs ++ cs ++ qs) ≡ 436 + length qs
+  four-long : length (ns ++ rs ++ cs ++ qs) ≡ queryFrom + length qs
   four-long = omega (arith, three-long, length-append (ns ++ rs ++ cs) qs)
 
   -- laid into one of them
-  in-roles : (at : ℕ) (w : List ℕ) → at + length w ≤ 48
-      → laid (ns ++ rs ++ cs ++ qs ++ rest) (4 + at) w ≡ ns ++ laid rs at w ++ cs ++ qs ++ rest
-  in-roles at w h = laid-front (ns ++ rs ++ cs ++ qs) rest (4 + at) w (omega (arith, four-long))
-      ∙ ap (λ y. y ++ rest) (laid-front (ns ++ rs ++ cs) qs (4 + at) w (omega (arith, three-long))
-      ∙ ap (λ y. y ++ qs) (laid-front (ns ++ rs) cs (4 + at) w (omega (arith, two-long))
+  in-roles : (at : ℕ) (w : List ℕ) → at + length w ≤ rolesRoom
+      → laid (ns ++ rs ++ cs ++ qs ++ rest) (rolesFrom + at) w ≡ ns ++ laid rs at w ++ cs ++ qs ++ rest
+  in-roles at w h = laid-front (ns ++ rs ++ cs ++ qs) rest (rolesFrom + at) w (omega (arith, four-long))
+      ∙ ap (λ y. y ++ rest) (laid-front (ns ++ rs ++ cs) qs (rolesFrom + at) w (omega (arith, three-long))
+      ∙ ap (λ y. y ++ qs) (laid-front (ns ++ rs) cs (rolesFrom + at) w (omega (arith, two-long))
       ∙ ap (λ y. y ++ cs) (ap (λ i. laid (ns ++ rs) (i + at) w) (sym a) ∙ laid-behind ns rs at w)))
 
-  in-concepts : (at : ℕ) (w : List ℕ) → at + length w ≤ 384
-      → laid (ns ++ rs ++ cs ++ qs ++ rest) (52 + at) w ≡ ns ++ rs ++ laid cs at w ++ qs ++ rest
-  in-concepts at w h = laid-front (ns ++ rs ++ cs ++ qs) rest (52 + at) w (omega (arith, four-long))
-      ∙ ap (λ y. y ++ rest) (laid-front (ns ++ rs ++ cs) qs (52 + at) w (omega (arith, three-long))
+  in-concepts : (at : ℕ) (w : List ℕ) → at + length w ≤ conceptsRoom
+      → laid (ns ++ rs ++ cs ++ qs ++ rest) (conceptsFrom + at) w ≡ ns ++ rs ++ laid cs at w ++ qs ++ rest
+  in-concepts at w h = laid-front (ns ++ rs ++ cs ++ qs) rest (conceptsFrom + at) w (omega (arith, four-long))
+      ∙ ap (λ y. y ++ rest) (laid-front (ns ++ rs ++ cs) qs (conceptsFrom + at) w (omega (arith, three-long))
       ∙ ap (λ y. y ++ qs) (ap (λ i. laid (ns ++ rs ++ cs) (i + at) w) (sym two-long) ∙ laid-behind (ns ++ rs) cs at w))
 
   in-query : (at : ℕ) (w : List ℕ) → at + length w ≤ length qs
-      → laid (ns ++ rs ++ cs ++ qs ++ rest) (436 + at) w ≡ ns ++ rs ++ cs ++ laid qs at w ++ rest
-  in-query at w h = laid-front (ns ++ rs ++ cs ++ qs) rest (436 + at) w (omega (arith, four-long))
+      → laid (ns ++ rs ++ cs ++ qs ++ rest) (queryFrom + at) w ≡ ns ++ rs ++ cs ++ laid qs at w ++ rest
+  in-query at w h = laid-front (ns ++ rs ++ cs ++ qs) rest (queryFrom + at) w (omega (arith, four-long))
       ∙ ap (λ y. y ++ rest) (ap (λ i. laid (ns ++ rs ++ cs ++ qs) (i + at) w) (sym three-long) ∙ laid-behind (ns ++ rs ++ cs) qs at w)
 
   -- and read there
-  of-roles : (n : ℕ) → n ≤ 48 → take n (drop 4 (ns ++ rs ++ cs ++ qs ++ rest)) ≡ take n rs
-  of-roles n h = ap (λ y. take n (drop 4 y)) (append-assoc (ns ++ rs ++ cs) qs rest ∙ append-assoc (ns ++ rs) cs (qs ++ rest)
+  of-roles : (n : ℕ) → n ≤ rolesRoom → take n (drop rolesFrom (ns ++ rs ++ cs ++ qs ++ rest)) ≡ take n rs
+  of-roles n h = ap (λ y. take n (drop rolesFrom y)) (append-assoc (ns ++ rs ++ cs) qs rest ∙ append-assoc (ns ++ rs) cs (qs ++ rest)
       ∙ append-assoc ns rs (cs ++ (qs ++ rest)))
-      ∙ ap (take n) (drop-at ns (rs ++ (cs ++ (qs ++ rest))) 4 a) ∙ take-append-le n rs (cs ++ (qs ++ rest)) (omega arith)
+      ∙ ap (take n) (drop-at ns (rs ++ (cs ++ (qs ++ rest))) rolesFrom a) ∙ take-append-le n rs (cs ++ (qs ++ rest)) (omega arith)
 
-  of-concepts : (n : ℕ) → n ≤ 384 → take n (drop 52 (ns ++ rs ++ cs ++ qs ++ rest)) ≡ take n cs
-  of-concepts n h = ap (λ y. take n (drop 52 y)) (append-assoc (ns ++ rs ++ cs) qs rest ∙ append-assoc (ns ++ rs) cs (qs ++ rest))
-      ∙ ap (take n) (drop-at (ns ++ rs) (cs ++ (qs ++ rest)) 52 two-long) ∙ take-append-le n cs (qs ++ rest) (omega arith)
+  of-concepts : (n : ℕ) → n ≤ conceptsRoom → take n (drop conceptsFrom (ns ++ rs ++ cs ++ qs ++ rest)) ≡ take n cs
+  of-concepts n h = ap (λ y. take n (drop conceptsFrom y)) (append-assoc (ns ++ rs ++ cs) qs rest ∙ append-assoc (ns ++ rs) cs (qs ++ rest))
+      ∙ ap (take n) (drop-at (ns ++ rs) (cs ++ (qs ++ rest)) conceptsFrom two-long) ∙ take-append-le n cs (qs ++ rest) (omega arith)
 
-  of-query : (n : ℕ) → n ≤ length qs → take n (drop 436 (ns ++ rs ++ cs ++ qs ++ rest)) ≡ take n qs
-  of-query n h = ap (λ y. take n (drop 436 y)) (append-assoc (ns ++ rs ++ cs) qs rest)
-      ∙ ap (take n) (drop-at (ns ++ rs ++ cs) (qs ++ rest) 436 three-long) ∙ take-append-le n qs rest h
+  of-query : (n : ℕ) → n ≤ length qs → take n (drop queryFrom (ns ++ rs ++ cs ++ qs ++ rest)) ≡ take n qs
+  of-query n h = ap (λ y. take n (drop queryFrom y)) (append-assoc (ns ++ rs ++ cs) qs rest)
+      ∙ ap (take n) (drop-at (ns ++ rs ++ cs) (qs ++ rest) queryFrom three-long) ∙ take-append-le n qs rest h
 
-  role-byte : (i : ℕ) → i < 48 → byteAt (ns ++ rs ++ cs ++ qs ++ rest) (4 + i) ≡ byteAt rs i
-  role-byte i h = List·getD-append (ns ++ rs ++ cs ++ qs) rest 0 (4 + i) (omega (arith, four-long))
-      ∙ List·getD-append (ns ++ rs ++ cs) qs 0 (4 + i) (omega (arith, three-long))
-      ∙ List·getD-append (ns ++ rs) cs 0 (4 + i) (omega (arith, two-long))
+  role-byte : (i : ℕ) → i < rolesRoom → byteAt (ns ++ rs ++ cs ++ qs ++ rest) (rolesFrom + i) ≡ byteAt rs i
+  role-byte i h = List·getD-append (ns ++ rs ++ cs ++ qs) rest 0 (rolesFrom + i) (omega (arith, four-long))
+      ∙ List·getD-append (ns ++ rs ++ cs) qs 0 (rolesFrom + i) (omega (arith, three-long))
+      ∙ List·getD-append (ns ++ rs) cs 0 (rolesFrom + i) (omega (arith, two-long))
       ∙ ap (λ j. byteAt (ns ++ rs) (j + i)) (sym a) ∙ getD-append-add ns rs i 0
 
--- ---- behind the 453 bytes nothing changes
-pub laid-beyond : (old : List ℕ) (at : ℕ) (w : List ℕ) → at + length w ≤ 453 → 453 ≤ length old → drop 453 (laid old at w) ≡ drop 453 old
+-- ---- behind the state's bytes nothing changes
+pub laid-beyond : (old : List ℕ) (at : ℕ) (w : List ℕ) → at + length w ≤ stateBytes → stateBytes ≤ length old → drop stateBytes
+    (laid old at w) ≡ drop stateBytes old
 unfolding laid
-laid-beyond old at w h l = ap (λ n. drop n (front ++ drop k old)) (let z : 453 ≡ length front + (453 - k) = omega (arith, long) in z)
-    ∙ drop-append-add front (drop k old) (453 - k) ∙ drop-drop (453 - k) k old
-    ∙ ap (λ n. drop n old) (let z : k + (453 - k) ≡ 453 = omega arith in z)
+laid-beyond old at w h l = ap (λ n. drop n (front ++ drop k old)) (let z : stateBytes ≡ length front + (stateBytes - k) = omega
+    (arith, long) in z)
+    ∙ drop-append-add front (drop k old) (stateBytes - k) ∙ drop-drop (stateBytes - k) k old
+    ∙ ap (λ n. drop n old) (let z : k + (stateBytes - k) ≡ stateBytes = omega arith in z)
   where
     k : ℕ
     k = at + length w
@@ -90,24 +93,24 @@ flag-back false = refl
 
 module _ (T : Draft) (h : Made T) where
   abbrev rs : List ℕ
-  rs = filled 48 (rolesOut T)
+  rs = filled rolesRoom (rolesOut T)
 
   abbrev cs : List ℕ
-  cs = filled 384 (conceptsOut T)
+  cs = filled conceptsRoom (conceptsOut T)
 
   abbrev qs : List ℕ
-  qs = filled 17 (queryOut T)
+  qs = filled queryRoom (queryOut T)
 
-  roles-fit : length rs ≡ 48
-  roles-fit = filled-long 48 (rolesOut T) (omega (arith, made-few T h, roles-long T))
+  roles-fit : length rs ≡ rolesRoom
+  roles-fit = filled-long rolesRoom (rolesOut T) (omega (arith, made-few T h, roles-long T))
 
-  concepts-fit : length cs ≡ 384
-  concepts-fit = filled-long 384 (conceptsOut T) (omega (arith, made-few T h, concepts-long T))
+  concepts-fit : length cs ≡ conceptsRoom
+  concepts-fit = filled-long conceptsRoom (conceptsOut T) (omega (arith, made-few T h, concepts-long T))
 
-  pub query-fit : length qs ≡ 17
-  query-fit = filled-long 17 (queryOut T) (omega (arith, made-few T h))
+  pub query-fit : length qs ≡ queryRoom
+  query-fit = filled-long queryRoom (queryOut T) (omega (arith, made-few T h))
 
-  draft-long : length (draftBytes T) ≡ 453
+  draft-long : length (draftBytes T) ≡ stateBytes
   unfolding draftBytes
   draft-long = let ns = length (T .roles) ∷ length (T .entries) ∷ flag (isSet (T .root)) ∷ length (T .rules) ∷ [] in
       omega (arith, query-fit, four-long ns rs cs qs [] refl roles-fit concepts-fit)
@@ -117,16 +120,16 @@ module _ (T : Draft) (h : Made T) where
     abbrev ns : List ℕ
     ns = n ∷ m ∷ f ∷ k ∷ []
 
-    pub roles-laid : (at : ℕ) (w : List ℕ) → at + length w ≤ 48
-        → laid (inBytes n m f k rs cs qs ++ rest) (4 + at) w ≡ inBytes n m f k (laid rs at w) cs qs ++ rest
+    pub roles-laid : (at : ℕ) (w : List ℕ) → at + length w ≤ rolesRoom
+        → laid (inBytes n m f k rs cs qs ++ rest) (rolesFrom + at) w ≡ inBytes n m f k (laid rs at w) cs qs ++ rest
     roles-laid = in-roles ns rs cs qs rest refl roles-fit concepts-fit
 
-    pub concepts-laid : (at : ℕ) (w : List ℕ) → at + length w ≤ 384
-        → laid (inBytes n m f k rs cs qs ++ rest) (52 + at) w ≡ inBytes n m f k rs (laid cs at w) qs ++ rest
+    pub concepts-laid : (at : ℕ) (w : List ℕ) → at + length w ≤ conceptsRoom
+        → laid (inBytes n m f k rs cs qs ++ rest) (conceptsFrom + at) w ≡ inBytes n m f k rs (laid cs at w) qs ++ rest
     concepts-laid = in-concepts ns rs cs qs rest refl roles-fit concepts-fit
 
-    pub query-laid : (at : ℕ) (w : List ℕ) → at + length w ≤ 17
-        → laid (inBytes n m f k rs cs qs ++ rest) (436 + at) w ≡ inBytes n m f k rs cs (laid qs at w) ++ rest
+    pub query-laid : (at : ℕ) (w : List ℕ) → at + length w ≤ queryRoom
+        → laid (inBytes n m f k rs cs qs ++ rest) (queryFrom + at) w ≡ inBytes n m f k rs cs (laid qs at w) ++ rest
     query-laid at w h = in-query ns rs cs qs rest refl roles-fit concepts-fit at w (omega (arith, query-fit))
 
 -- ---- what the code reads, of such bytes
@@ -134,7 +137,7 @@ module _ (old : List ℕ) (T : Draft) (rest : List ℕ) (l : Lends old T rest) w
   abbrev first : List ℕ
   first = length (T .roles) ∷ length (T .entries) ∷ flag (isSet (T .root)) ∷ length (T .rules) ∷ []
 
-  pub enough : 453 ≤ length old
+  pub enough : stateBytes ≤ length old
   enough = rw (l .same) (omega (arith, draft-long T (l .made), length-append (draftBytes T) rest))
 
   pub roles-count : rolesIn old ≡ length (T .roles)
@@ -153,29 +156,29 @@ module _ (old : List ℕ) (T : Draft) (rest : List ℕ) (l : Lends old T rest) w
   unfolding draftBytes
   root-flag = ap (λ b. eqb (byteAt b 2) 1) (l .same) ∙ flag-back (isSet (T .root))
 
-  pub roles-read : (n : ℕ) → n ≡ length (T .roles) → take (3 * n) (drop 4 old) ≡ rolesOut T
+  pub roles-read : (n : ℕ) → n ≡ length (T .roles) → take (3 * n) (drop rolesFrom old) ≡ rolesOut T
   unfolding draftBytes
-  roles-read n e = let m = l .made in ap (λ b. take (3 * n) (drop 4 b)) (l .same)
+  roles-read n e = let m = l .made in ap (λ b. take (3 * n) (drop rolesFrom b)) (l .same)
       ∙ of-roles first (rs T m) (cs T m) (qs T m) rest refl (roles-fit T m) (concepts-fit T m) (3 * n) (omega (arith, made-few T m, e))
-      ∙ filled-front 48 (rolesOut T) (3 * n) (omega (arith, e, roles-long T))
+      ∙ filled-front rolesRoom (rolesOut T) (3 * n) (omega (arith, e, roles-long T))
 
-  pub role-byte-read : (i : ℕ) → i < 48 → byteAt old (4 + i) ≡ byteAt (filled 48 (rolesOut T)) i
+  pub role-byte-read : (i : ℕ) → i < rolesRoom → byteAt old (rolesFrom + i) ≡ byteAt (filled rolesRoom (rolesOut T)) i
   unfolding draftBytes
-  role-byte-read i k = let m = l .made in ap (λ b. byteAt b (4 + i)) (l .same)
+  role-byte-read i k = let m = l .made in ap (λ b. byteAt b (rolesFrom + i)) (l .same)
       ∙ role-byte first (rs T m) (cs T m) (qs T m) rest refl (roles-fit T m) (concepts-fit T m) i k
 
-  pub concepts-read : (n : ℕ) → n ≡ length (T .entries) → take (6 * n) (drop 52 old) ≡ conceptsOut T
+  pub concepts-read : (n : ℕ) → n ≡ length (T .entries) → take (6 * n) (drop conceptsFrom old) ≡ conceptsOut T
   unfolding draftBytes
-  concepts-read n e = let m = l .made in ap (λ b. take (6 * n) (drop 52 b)) (l .same)
+  concepts-read n e = let m = l .made in ap (λ b. take (6 * n) (drop conceptsFrom b)) (l .same)
       ∙ of-concepts first (rs T m) (cs T m) (qs T m) rest refl (roles-fit T m) (concepts-fit T m) (6 * n) (omega (arith, made-few T m, e))
-      ∙ filled-front 384 (conceptsOut T) (6 * n) (omega (arith, e, concepts-long T))
+      ∙ filled-front conceptsRoom (conceptsOut T) (6 * n) (omega (arith, e, concepts-long T))
 
-  pub query-read : (k : ℕ) → k ≡ length (T .rules) → take (1 + k) (drop 436 old) ≡ queryOut T
+  pub query-read : (k : ℕ) → k ≡ length (T .rules) → take (1 + k) (drop queryFrom old) ≡ queryOut T
   unfolding draftBytes
-  query-read k e = let m = l .made in ap (λ b. take (1 + k) (drop 436 b)) (l .same)
+  query-read k e = let m = l .made in ap (λ b. take (1 + k) (drop queryFrom b)) (l .same)
       ∙ of-query first (rs T m) (cs T m) (qs T m) rest refl (roles-fit T m) (concepts-fit T m) (1 + k)
       (omega (arith, made-few T m, e, query-fit T m))
-      ∙ filled-front 17 (queryOut T) (1 + k) (omega (arith, e))
+      ∙ filled-front queryRoom (queryOut T) (1 + k) (omega (arith, e))
 
   pub table-read : tableIn old ≡ roleTable (rolesOut T)
   table-read = ap roleTable (roles-read (rolesIn old) roles-count)

@@ -17,13 +17,15 @@ use Rattle.intake.specs.Steps.{literal-is}
 use Rattle.editing.specs.Editing.{Draft, isSet, describes, newRoot, newRule, putIn, refusal}
 use Rattle.editing.specs.Answers.{root-answers, rule-answers}
 use Rattle.edit_bytes.specs.Out.{rolesOut, conceptsOut, queryOut}
-use Rattle.edit_state.specs.Lent.{filled, flag, inBytes, draftBytes, Lends, entriesIn, rulesIn}
+use Rattle.edit_state.specs.Lent.{rolesRoom, conceptsRoom, queryRoom, queryFrom, rulesFrom, stateBytes, filled, flag, inBytes}
+use Rattle.edit_state.specs.Lent.{draftBytes, Lends, entriesIn, rulesIn}
 use Rattle.edit_state.specs.FillLaws.{filled-on}
 use Rattle.edit_state.specs.PlaceLaws.{enough, entries-count, rules-count, query-fit, query-laid}
 
--- behind the 453 bytes nothing changes, of two numbers set before
-pub sets-beyond : (old : List ℕ) (i a j b : ℕ) → i < 453 → j < 453 → drop 453 (set (set old i a) j b) ≡ drop 453 old
-sets-beyond old i a j b h k = drop-set-lt 453 (set old i a) j b k ∙ drop-set-lt 453 old i a h
+-- behind the state's bytes nothing changes, of two numbers set before
+pub sets-beyond : (old : List ℕ) (i a j b : ℕ) → i < stateBytes → j < stateBytes → drop stateBytes (set (set old i a) j b)
+    ≡ drop stateBytes old
+sets-beyond old i a j b h k = drop-set-lt stateBytes (set old i a) j b k ∙ drop-set-lt stateBytes old i a h
 
 module _ (old : List ℕ) (l n : ℕ) (e : n ≡ entriesIn old) (T : Draft) (rest : List ℕ) (w : Lends old T rest) where
   counted : n ≡ length (T .entries)
@@ -33,31 +35,33 @@ module _ (old : List ℕ) (l n : ℕ) (e : n ≡ entriesIn old) (T : Draft) (res
   literal-test = sym (literal-is l (length (T .entries))) ∙ ap (λ n. ltb l (2 * n)) (sym counted)
 
   -- one byte of the query, whatever the four numbers are
-  byte-put : (a b c d : ℕ) (at : ℕ) → at < 17
-      → laid (inBytes a b c d (filled 48 (rolesOut T)) (filled 384 (conceptsOut T)) (filled 17 (queryOut T)) ++ rest) (436 + at) (l ∷ [])
-      ≡ inBytes a b c d (filled 48 (rolesOut T)) (filled 384 (conceptsOut T)) (laid (filled 17 (queryOut T)) at (l ∷ [])) ++ rest
+  byte-put : (a b c d : ℕ) (at : ℕ) → at < queryRoom
+      → laid (inBytes a b c d (filled rolesRoom (rolesOut T)) (filled conceptsRoom (conceptsOut T)) (filled queryRoom
+      (queryOut T)) ++ rest) (queryFrom + at) (l ∷ [])
+      ≡ inBytes a b c d (filled rolesRoom (rolesOut T)) (filled conceptsRoom (conceptsOut T)) (laid (filled queryRoom (queryOut T)) at
+      (l ∷ [])) ++ rest
   byte-put a b c d at h = query-laid T (w .made) a b c d rest at (l ∷ []) (omega arith)
 
-  set-laid : (i a at : ℕ) → at < 453 → set (set old i a) at l ≡ laid (set old i a) at (l ∷ [])
+  set-laid : (i a at : ℕ) → at < stateBytes → set (set old i a) at l ≡ laid (set old i a) at (l ∷ [])
   set-laid i a at h = laid-one (set old i a) at l (omega (arith, length-set old i a, enough old T rest w))
 
   -- ---- the root
   pub root-past : ltb l (2 * n) ≡ false → refusal T (newRoot l) ≡ some 8
   root-past k = root-answers T (w .made) l ∙ rw (literal-test ∙ k) refl
 
-  root-laid : laid (filled 17 (queryOut T)) 0 (l ∷ []) ≡ filled 17 (queryOut (putIn T (newRoot l)))
+  root-laid : laid (filled queryRoom (queryOut T)) 0 (l ∷ []) ≡ filled queryRoom (queryOut (putIn T (newRoot l)))
   unfolding filled
-  root-laid = sym (laid-one (filled 17 (queryOut T)) 0 l (omega (arith, query-fit T (w .made))))
+  root-laid = sym (laid-one (filled queryRoom (queryOut T)) 0 l (omega (arith, query-fit T (w .made))))
 
   pub root-put : ltb l (2 * n) ≡ true → (refusal T (newRoot l) ≡ none)
-      × (set (set old 2 1) 436 l ≡ draftBytes (putIn T (newRoot l)) ++ rest)
+      × (set (set old 2 1) queryFrom l ≡ draftBytes (putIn T (newRoot l)) ++ rest)
   unfolding draftBytes rolesOut conceptsOut
   root-put k = (
     root-answers T (w .made) l ∙ rw (literal-test ∙ k) refl,
-    set-laid 2 1 436 (omega arith) ∙ ap (λ o. laid (set o 2 1) 436 (l ∷ [])) (w .same)
+    set-laid 2 1 queryFrom (omega arith) ∙ ap (λ o. laid (set o 2 1) queryFrom (l ∷ [])) (w .same)
         ∙ byte-put (length (T .roles)) (length (T .entries)) 1 (length (T .rules)) 0 (omega arith)
-        ∙ ap (λ qs. inBytes (length (T .roles)) (length (T .entries)) 1 (length (T .rules)) (filled 48 (rolesOut T))
-        (filled 384 (conceptsOut T)) qs ++ rest) root-laid,
+        ∙ ap (λ qs. inBytes (length (T .roles)) (length (T .entries)) 1 (length (T .rules)) (filled rolesRoom (rolesOut T))
+        (filled conceptsRoom (conceptsOut T)) qs ++ rest) root-laid,
   )
 
   -- ---- a rule
@@ -72,15 +76,15 @@ module _ (old : List ℕ) (l n : ℕ) (e : n ≡ entriesIn old) (T : Draft) (res
     rule-past h u = rule-answers T (w .made) l ∙ rw (lt-ltb (length (T .rules)) 16 (omega (arith, ruled)), literal-test ∙ u) refl
 
     pub rule-added : k < 16 → ltb l (2 * n) ≡ true → (refusal T (newRule l) ≡ none)
-        × (set (set old 3 (k + 1)) (437 + k) l ≡ draftBytes (putIn T (newRule l)) ++ rest)
+        × (set (set old 3 (k + 1)) (rulesFrom + k) l ≡ draftBytes (putIn T (newRule l)) ++ rest)
     unfolding draftBytes rolesOut conceptsOut
     rule-added h u = (
       rule-answers T (w .made) l ∙ rw (lt-ltb (length (T .rules)) 16 (omega (arith, ruled)), literal-test ∙ u) refl,
-      set-laid 3 (k + 1) (437 + k) (omega arith)
-          ∙ ap₂ (λ o i. laid (set o 3 (k + 1)) i (l ∷ [])) (w .same) (let z : 437 + k ≡ 436 + (1 + k) = omega arith in z)
+      set-laid 3 (k + 1) (rulesFrom + k) (omega arith)
+          ∙ ap₂ (λ o i. laid (set o 3 (k + 1)) i (l ∷ [])) (w .same) (let z : rulesFrom + k ≡ queryFrom + (1 + k) = omega arith in z)
           ∙ byte-put (length (T .roles)) (length (T .entries)) (flag (isSet (T .root))) (k + 1) (1 + k) (omega arith)
-          ∙ ap₂ (λ i qs. inBytes (length (T .roles)) (length (T .entries)) (flag (isSet (T .root))) i (filled 48 (rolesOut T))
-          (filled 384 (conceptsOut T)) qs ++ rest)
+          ∙ ap₂ (λ i qs. inBytes (length (T .roles)) (length (T .entries)) (flag (isSet (T .root))) i (filled rolesRoom (rolesOut T))
+          (filled conceptsRoom (conceptsOut T)) qs ++ rest)
           (let z : k + 1 ≡ length (T .rules ++ (l ∷ [])) = omega (arith, length-snoc (T .rules) l, ruled) in z)
-          (filled-on 17 (queryOut T) (l ∷ []) (1 + k) (omega (arith, ruled)) (omega (arith, ruled))),
+          (filled-on queryRoom (queryOut T) (l ∷ []) (1 + k) (omega (arith, ruled)) (omega (arith, ruled))),
     )

@@ -14,21 +14,22 @@ use Rattle.editing.specs.Editing.{RoleIn, Draft, isSet, newRole, putIn, refusal
 use Rattle.editing.specs.Answers.{role-answers}
 use Rattle.edit_bytes.specs.Out.{roleBytes, rolesOut, conceptsOut, queryOut}
 use Rattle.edit_bytes.specs.OutLaws.{roles-long}
-use Rattle.edit_state.specs.Lent.{filled, flag, inBytes, draftBytes, Lends, rolesIn}
+use Rattle.edit_state.specs.Lent.{rolesRoom, conceptsRoom, queryRoom, rolesFrom, stateBytes, filled, flag, inBytes, draftBytes}
+use Rattle.edit_state.specs.Lent.{Lends, rolesIn}
 use Rattle.edit_state.specs.FillLaws.{filled-on, bytes-snoc}
 use Rattle.edit_state.specs.PlaceLaws.{laid-beyond, roles-count, roles-laid}
 
--- behind the 453 bytes nothing changes, of a number set and bytes laid before
-pub changed-beyond : (old : List ℕ) (i a at : ℕ) (w : List ℕ) → i < 453 → at + length w ≤ 453 → 453 ≤ length old
-    → drop 453 (laid (set old i a) at w) ≡ drop 453 old
-changed-beyond old i a at w h k l = laid-beyond (set old i a) at w k (omega (arith, length-set old i a)) ∙ drop-set-lt 453 old i a h
+-- behind the state's bytes nothing changes, of a number set and bytes laid before
+pub changed-beyond : (old : List ℕ) (i a at : ℕ) (w : List ℕ) → i < stateBytes → at + length w ≤ stateBytes → stateBytes ≤ length old
+    → drop stateBytes (laid (set old i a) at w) ≡ drop stateBytes old
+changed-beyond old i a at w h k l = laid-beyond (set old i a) at w k (omega (arith, length-set old i a)) ∙ drop-set-lt stateBytes old i a h
 
 -- one role more
 new-role : (T : Draft) (b : ℕ) → length (T .roles) < 16
-    → laid (filled 48 (rolesOut T)) (3 * length (T .roles)) (b ∷ two 0) ≡ filled 48 (rolesOut (putIn T (newRole b)))
+    → laid (filled rolesRoom (rolesOut T)) (3 * length (T .roles)) (b ∷ two 0) ≡ filled rolesRoom (rolesOut (putIn T (newRole b)))
 unfolding rolesOut
-new-role T b k = filled-on 48 (rolesOut T) (b ∷ two 0) (3 * length (T .roles)) (sym (roles-long T)) (omega (arith, roles-long T))
-    ∙ ap (filled 48) (sym (bytes-snoc 3 roleBytes (λ R. refl) (T .roles) (record { transitive = b; parents = 0 })))
+new-role T b k = filled-on rolesRoom (rolesOut T) (b ∷ two 0) (3 * length (T .roles)) (sym (roles-long T)) (omega (arith, roles-long T))
+    ∙ ap (filled rolesRoom) (sym (bytes-snoc 3 roleBytes (λ R. refl) (T .roles) (record { transitive = b; parents = 0 })))
 
 module _ (old : List ℕ) (b n : ℕ) (e : n ≡ rolesIn old) (T : Draft) (rest : List ℕ) (l : Lends old T rest) where
   counted : n ≡ length (T .roles)
@@ -41,15 +42,15 @@ module _ (old : List ℕ) (b n : ℕ) (e : n ≡ rolesIn old) (T : Draft) (rest 
   role-past k u = role-answers T (l .made) b ∙ rw (lt-ltb (length (T .roles)) 16 (omega (arith, counted)), lt-leb b 1 u) refl
 
   pub role-added : n < 16 → b ≤ 1 → (refusal T (newRole b) ≡ none)
-      × (laid (set old 0 (n + 1)) (4 + 3 * n) (b ∷ two 0) ≡ draftBytes (putIn T (newRole b)) ++ rest)
+      × (laid (set old 0 (n + 1)) (rolesFrom + 3 * n) (b ∷ two 0) ≡ draftBytes (putIn T (newRole b)) ++ rest)
   unfolding draftBytes conceptsOut
   role-added k u = (
     role-answers T (l .made) b ∙ rw (lt-ltb (length (T .roles)) 16 (omega (arith, counted)), le-leb b 1 u) refl,
-    ap₂ (λ o n. laid (set o 0 (n + 1)) (4 + 3 * n) (b ∷ two 0)) (l .same) counted
+    ap₂ (λ o n. laid (set o 0 (n + 1)) (rolesFrom + 3 * n) (b ∷ two 0)) (l .same) counted
         ∙ roles-laid T (l .made) (length (T .roles) + 1) (length (T .entries)) (flag (isSet (T .root))) (length (T .rules)) rest
         (3 * length (T .roles)) (b ∷ two 0) (omega (arith, counted))
-        ∙ ap₂ (λ n rs. inBytes n (length (T .entries)) (flag (isSet (T .root))) (length (T .rules)) rs (filled 384 (conceptsOut T))
-        (filled 17 (queryOut T)) ++ rest)
+        ∙ ap₂ (λ n rs. inBytes n (length (T .entries)) (flag (isSet (T .root))) (length (T .rules)) rs (filled conceptsRoom (conceptsOut T))
+        (filled queryRoom (queryOut T)) ++ rest)
         (let z : length (T .roles) + 1 ≡ length (T .roles ++ (new ∷ [])) = omega (arith, length-snoc (T .roles) new) in z)
         (new-role T b (omega (arith, counted))),
   )

@@ -32,7 +32,22 @@ use tables::Fields;
 use tables::RoleNo;
 use tables::fields_ok;
 
-pub const STATE_BYTES: usize = 453;
+// How many bytes each part may have, where it begins behind the four numbers, and where the last ends.
+const ROLES_ROOM: usize = 48;
+
+const CONCEPTS_ROOM: usize = 384;
+
+const QUERY_ROOM: usize = 17;
+
+const ROLES_FROM: usize = 4;
+
+const CONCEPTS_FROM: usize = ROLES_FROM + ROLES_ROOM;
+
+const QUERY_FROM: usize = CONCEPTS_FROM + CONCEPTS_ROOM;
+
+const RULES_FROM: usize = QUERY_FROM + 1;
+
+pub const STATE_BYTES: usize = QUERY_FROM + QUERY_ROOM;
 
 // The count at a place, up to its limit.
 fn count_at(st: &[u8], at: usize, most: u8) -> u8
@@ -75,7 +90,7 @@ pub fn put_role(st: &mut [u8], transitive: u8) -> Change
         return Change::Refused(3, 0);
     }
     st[0] = n + 1;
-    lay_role(st, 4 + 3 * (n as usize), transitive, 0);
+    lay_role(st, ROLES_FROM + 3 * (n as usize), transitive, 0);
     Change::Done
 }
 
@@ -97,7 +112,7 @@ pub fn put_root(st: &mut [u8], literal: u8) -> Change
         return Change::Refused(8, 0);
     }
     st[2] = 1;
-    st[436] = literal;
+    st[QUERY_FROM] = literal;
     Change::Done
 }
 
@@ -116,7 +131,7 @@ pub fn put_rule(st: &mut [u8], literal: u8) -> Change
         return Change::Refused(8, 0);
     }
     st[3] = k + 1;
-    st[437 + (k as usize)] = literal;
+    st[RULES_FROM + (k as usize)] = literal;
     Change::Done
 }
 
@@ -124,7 +139,7 @@ pub fn put_rule(st: &mut [u8], literal: u8) -> Change
 pub fn records(st: &[u8]) -> [Role; 16]
     ensures { λ r. ⌜ r ≡ tableIn (now (st .entry)) ⌝ }
 {
-    role_table(span(st, 4, 3 * (count_roles(st) as usize)))
+    role_table(span(st, ROLES_FROM, 3 * (count_roles(st) as usize)))
 }
 
 // The records of these roles with the bit of `p` in the parents of `r`, made by what opens a description: there is no other way.
@@ -132,7 +147,7 @@ fn records_with(rs: &[u8], r: RoleNo, p: RoleNo) -> [Role; 16]
     requires { ⌜ length (now rs) ≤ 48 ⌝ }
     ensures { λ q. ⌜ q ≡ tableWith (now (rs .entry)) (r .0 % 16) (p .0 % 16) ⌝ }
 {
-    let mut roles = [0; 48];
+    let mut roles = [0; ROLES_ROOM];
     copy_bytes(&mut roles, 0, rs);
     lay_parent(&mut roles, 3 * ((r.0 % 16) as usize), p);
     role_table(span(&roles, 0, rs.len()))
@@ -153,8 +168,12 @@ fn judge_inclusion(st: &[u8], r: RoleNo, p: RoleNo) -> Change
     if !are_roles(r, p, n) {
         return Change::Refused(3, 0);
     }
-    let table = records_with(span(st, 4, 3 * (n as usize)), r, p);
-    let cs = span(st, 52, 6 * (count_at(st, 1, MOST_ENTRIES) as usize));
+    let table = records_with(span(st, ROLES_FROM, 3 * (n as usize)), r, p);
+    let cs = span(
+        st,
+        CONCEPTS_FROM,
+        6 * (count_at(st, 1, MOST_ENTRIES) as usize),
+    );
     if !simples_ok(cs, table) {
         return Change::Refused(5, 0);
     }
@@ -175,7 +194,7 @@ pub fn put_inclusion(st: &mut [u8], r: RoleNo, p: RoleNo) -> Change
     let Change::Done = judged else {
         return judged;
     };
-    lay_parent(st, 4 + 3 * ((r.0 % 16) as usize), p);
+    lay_parent(st, ROLES_FROM + 3 * ((r.0 % 16) as usize), p);
     Change::Done
 }
 
@@ -208,8 +227,8 @@ fn judge_concept(st: &[u8], f: Fields) -> Change
         return Change::Refused(4, 0);
     }
     let size = 6 * (e as usize);
-    let mut concepts = [0; 384];
-    copy_bytes(&mut concepts, 0, span(st, 52, size));
+    let mut concepts = [0; CONCEPTS_ROOM];
+    copy_bytes(&mut concepts, 0, span(st, CONCEPTS_FROM, size));
     lay_entry(&mut concepts, size, f);
     judge_last(span(&concepts, 0, size + 6), EntryNo(e), records(st), n)
 }
@@ -227,7 +246,7 @@ pub fn put_concept(st: &mut [u8], f: Fields) -> Change
     };
     let e = count_at(st, 1, MOST_ENTRIES);
     st[1] = e + 1;
-    lay_entry(st, 52 + 6 * (e as usize), f);
+    lay_entry(st, CONCEPTS_FROM + 6 * (e as usize), f);
     Change::Done
 }
 
@@ -250,9 +269,9 @@ pub fn write_state(st: &[u8], buf: &mut [u8]) -> Output
     if !is_whole(n, e, byte(st, 2) == 1) {
         return Output::Refused(2, 0);
     }
-    let rs = span(st, 4, 3 * (n as usize));
-    let cs = span(st, 52, 6 * (e as usize));
-    let qs = span(st, 436, 1 + (count_at(st, 3, 16) as usize));
+    let rs = span(st, ROLES_FROM, 3 * (n as usize));
+    let cs = span(st, CONCEPTS_FROM, 6 * (e as usize));
+    let qs = span(st, QUERY_FROM, 1 + (count_at(st, 3, 16) as usize));
     let size = 12 + rs.len() + cs.len() + qs.len();
     if buf.len() < size {
         return Output::Refused(22, 0);

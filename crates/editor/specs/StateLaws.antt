@@ -18,7 +18,7 @@ use Rattle.editing.specs.Kept.{made-few}
 use Rattle.edit_bytes.specs.Out.{rolesOut, conceptsOut, queryOut, outAnswer, outLength, outBuffer}
 use Rattle.edit_bytes.specs.OutLaws.{roles-long, byte-of, mask-of, is-described}
 use Rattle.edit_state.specs.Lent as Lent
-use Rattle.edit_state.specs.Lent.{draftBytes, Lends, rolesIn, tableIn}
+use Rattle.edit_state.specs.Lent.{stateBytes, draftBytes, Lends, rolesIn, tableIn}
 use Rattle.edit_state.specs.PlaceLaws.{roles-count, table-read}
 use Rattle.edit_state.specs.EditLaws.{empty-bytes, stays}
 use Rattle.editor.specs.declared.Editor.{Editor}
@@ -38,8 +38,8 @@ holds-bytes bytes T m e = record {
 }
 
 -- ---- nothing is put in
-pub starts : (s : Editor) → s ≡ record { bytes = replicate 453 0; table = tableIn (replicate 453 0) } → Holds s nothing
-starts s q = subst (λ s. Holds s nothing) (sym q) (holds-bytes (replicate 453 0) nothing start (sym empty-bytes))
+pub starts : (s : Editor) → s ≡ record { bytes = replicate stateBytes 0; table = tableIn (replicate stateBytes 0) } → Holds s nothing
+starts s q = subst (λ s. Holds s nothing) (sym q) (holds-bytes (replicate stateBytes 0) nothing start (sym empty-bytes))
 
 -- ---- an operation
 -- it does as it should: of a state that holds a draft, and on a refusal of every state
@@ -72,7 +72,17 @@ Writes s old r new = ((T : Draft) → Holds s T → ofOutput r ≡ outAnswer T (
 pub writes-state : (s : Editor) (old : List ℕ) (r : Outputs.Output) (new : List ℕ) → Lent.Writes (s .bytes) old r new → Writes s old r new
 writes-state s old r new w = (
   λ T h. w .made T [] (lends s T h) .0,
-  (λ T h. w .made T [] (lends s T h) .1, (λ T h. w .made T [] (lends s T h) .2, (w .kept, w .past))),
+  (
+    λ T h. w .made T [] (lends s T h) .1,
+    (
+      λ T h. w .made T [] (lends s T h) .2,
+      (
+        w .kept,
+        λ n e. subst (λ n. drop n new ≡ drop n old)
+            (sym (w .size n e)) (w .past),
+      ),
+    ),
+  ),
 )
 
 -- ---- what the state has

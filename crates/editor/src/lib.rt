@@ -14,6 +14,7 @@ ghost use Rattle.edit_state.specs.Lent.{rolesIn};
 ghost use Rattle.editor.specs.Holding.{Holds, Edits, stateAfter};
 use answers::Change;
 use answers::Output;
+use edit_state::STATE_BYTES;
 use edit_state::count_roles;
 use edit_state::put_concept;
 use edit_state::put_inclusion;
@@ -28,7 +29,7 @@ use tables::RoleNo;
 
 // The state in bytes, and the records of its roles.
 pub struct Editor {
-    bytes: [u8; 453],
+    bytes: [u8; STATE_BYTES],
     table: [Role; 16],
 }
 
@@ -39,7 +40,7 @@ pub struct Edited {
 }
 
 // The state of the new bytes, or on a refusal the one that came.
-fn after(s: Editor, answer: Change, bytes: [u8; 453]) -> Edited
+fn after(s: Editor, answer: Change, bytes: [u8; STATE_BYTES]) -> Edited
     ensures { λ r. ⌜ r ≡ record { answer = answer; state = stateAfter s answer bytes } ⌝ }
 {
     match answer {
@@ -61,7 +62,7 @@ fn after(s: Editor, answer: Change, bytes: [u8; 453]) -> Edited
 pub fn start() -> Editor
     ensures { λ r. ⌜ Holds r nothing ⌝ }
 {
-    let bytes = [0; 453];
+    let bytes = [0; STATE_BYTES];
     Editor {
         bytes: bytes,
         table: records(&bytes),

@@ -14,6 +14,7 @@ use Rattle.shq_c.specs.Edits.{Lent, Starts, Edits, Writes}
 
 keeps-lent : (old : List ℕ) (a : Change) (new : List ℕ) (r : ℕ) → r ≡ packed (ofChange a) → Bytes.Keeps old a new → Lent old r new
 keeps-lent old a new r q k = record {
+  told = (ofChange a, k .told, q);
   kept = left a q (k .kept);
   beyond = k .beyond;
   short = λ h. q ∙ ap (λ a. packed (ofChange a)) (k .short h);
@@ -41,7 +42,9 @@ pub writes-packed : (state old : List ℕ) (a : Outputs.Output) (new : List ℕ)
     → Bytes.Writes state old a new → Writes state old r new
 writes-packed state old a new r q w = record {
   made = λ T m rest s. let p = w .made T rest (record { made = m; same = s }) in (q ∙ ap packed (p .0), p .2);
+  told = (ofOutput a, w .told, q);
   kept = left a q (w .kept);
+  past = w .past;
   most = w .most;
   short = λ h. q ∙ ap (λ a. packed (ofOutput a)) (w .short h);
 }

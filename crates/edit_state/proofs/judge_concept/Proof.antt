@@ -2,12 +2,14 @@ use Prim.Native.Nat.{_+_, _*_}
 use mathlib.Core.Path.{_∙_, sym, ap, refl}
 use borrow.Author.Tests.{not-true, not-false}
 use lib.ListN.{take, drop}
+use Rattle.parts.specs.Numbers.{upTo}
 use Rattle.laying.specs.Laying.{laid}
 use Rattle.edit_lay.specs.Lays.{sixBytes}
 use Rattle.answers.specs.Answers.{ofChange}
 use Rattle.edit_state.specs.WriteLaws.{span-short}
 use Rattle.edit_state.specs.EditLaws.{refused-judges}
-use Rattle.edit_state.specs.ConceptLaws.{concept-full, concept-4, concept-last}
+use Rattle.edit_state.specs.ConceptLaws.{last-told, concept-full, concept-4, concept-last}
+use Rattle.edit_state.specs.Lent.{conceptsFrom}
 use native.Mathlib.Omega.{arith}
 use borrow.Author.Needs.{needs}
 use Rattle.edit_state.proofs.judge_concept.Statement.{statement}
@@ -28,7 +30,8 @@ count-at-requires c κs = search needs
 
 returns : tie.Need-returns
 returns c = let p = c .before in let q = p .before .before in
-    refused-judges _ (q .args .st .now) 25 (λ T rest l. concept-full (q .args .st .now) (q .args .f) _ (p .count-at .result) refl
+    refused-judges _ (q .args .st .now) 25 (omega arith) (λ T rest l. concept-full (q .args .st .now) (q .args .f) _
+    (p .count-at .result) refl
     (p .count-at .ensures .0) T rest l (omega arith))
 
 count-roles-requires : tie.Need-count-roles-requires
@@ -42,7 +45,7 @@ fields-ok-requires c κs = search needs
 
 returns-2 : tie.Need-returns-2
 returns-2 c = let p = c .before in let q = p .before in let u = q .before in let v = u .before in let w = v .before .before in
-    refused-judges _ (w .args .st .now) 4 (λ T rest l. concept-4 (w .args .st .now) (w .args .f) (q .count-roles .result)
+    refused-judges _ (w .args .st .now) 4 (omega arith) (λ T rest l. concept-4 (w .args .st .now) (w .args .f) (q .count-roles .result)
     (v .count-at .result) (q .count-roles .ensures .0) (v .count-at .ensures .0) T rest l (omega (arith, u .if1 .left)) (sym
     (p .fields-ok .ensures) ∙ not-true _ (c .if2 .taken)))
 
@@ -60,7 +63,7 @@ span-requires c κs = search needs
 
 copy-bytes-requires : tie.Need-copy-bytes-requires
 copy-bytes-requires c κs = let p = c .before .before .before .before .before .before in let q = p .before .before in
-    omega (arith, span-short (6 * p .count-at .result) (drop 52 (q .args .st .now)) (c .span .result .now) (c .span .ensures))
+    omega (arith, span-short (6 * p .count-at .result) (drop conceptsFrom (q .args .st .now)) (c .span .result .now) (c .span .ensures))
 
 slice-aggregate-lay-entry : tie.Need-slice-aggregate-lay-entry
 slice-aggregate-lay-entry c = search needs
@@ -87,11 +90,16 @@ returns-3 : tie.Need-returns-3
 returns-3 c = let p = c .before in let q = p .before in let u = q .before .before .before in let v = u .before .before .before in let w =
     v .before in let x = w .before .before in let y = x .before in let z = y .before in let d = z .before in let e = d .before in let g =
     e .before .before in
-    λ T rest l. ap ofChange (c .judge-last .ensures) ∙ concept-last (g .args .st .now) (g .args .f) (z .count-roles .result)
-    (e .count-at .result) (z .count-roles .ensures .0) (e .count-at .ensures .0) T rest l (w .span .result .now) (q .span2 .result .now)
-    (p .records .result) (w .span .ensures) (q .span2 .ensures ∙ ap (λ b. take (6 * e .count-at .result + 6) (drop 0 b))
-    (u .lay-entry .ensures ∙ ap (λ b. laid b (6 * e .count-at .result) (sixBytes (g .args .f))) (v .copy-bytes .ensures)))
-    (p .records .ensures) (omega (arith, d .if1 .left)) (sym (y .fields-ok .ensures) ∙ not-false _ (x .if2 .left))
+    record {
+      told = last-told (q .span2 .result .now) (e .count-at .result) (p .records .result) (upTo 16 (z .count-roles .result)) _
+          (c .judge-last .ensures);
+      made = λ T rest l. ap ofChange (c .judge-last .ensures) ∙ concept-last (g .args .st .now) (g .args .f) (z .count-roles .result)
+          (e .count-at .result) (z .count-roles .ensures .0) (e .count-at .ensures .0) T rest l (w .span .result .now)
+          (q .span2 .result .now)
+          (p .records .result) (w .span .ensures) (q .span2 .ensures ∙ ap (λ b. take (6 * e .count-at .result + 6) (drop 0 b))
+          (u .lay-entry .ensures ∙ ap (λ b. laid b (6 * e .count-at .result) (sixBytes (g .args .f))) (v .copy-bytes .ensures)))
+          (p .records .ensures) (omega (arith, d .if1 .left)) (sym (y .fields-ok .ensures) ∙ not-false _ (x .if2 .left));
+    }
 
 pub judge-concept-spec : {M : Type 1} → statement M
 judge-concept-spec =

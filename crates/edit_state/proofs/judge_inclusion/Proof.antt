@@ -5,6 +5,7 @@ use lib.ListN.{drop}
 use Rattle.edit_state.specs.WriteLaws.{span-short}
 use Rattle.edit_state.specs.EditLaws.{refused-judges, done-judges}
 use Rattle.edit_state.specs.InclusionLaws.{inclusion-past, inclusion-5, inclusion-7, inclusion-passes}
+use Rattle.edit_state.specs.Lent.{rolesFrom}
 use native.Mathlib.Omega.{arith}
 use borrow.Author.Needs.{needs}
 use Rattle.edit_state.proofs.judge_inclusion.Statement.{statement}
@@ -27,7 +28,7 @@ are-roles-requires c κs = search needs
 
 returns : tie.Need-returns
 returns c = let q = c .before in let u = q .before in let v = u .before .before in
-    refused-judges _ (v .args .st .now) 3 (λ T rest l. inclusion-past (v .args .st .now) (v .args .r .0) (v .args .p .0)
+    refused-judges _ (v .args .st .now) 3 (omega arith) (λ T rest l. inclusion-past (v .args .st .now) (v .args .r .0) (v .args .p .0)
     (u .count-roles .result) (u .count-roles .ensures .0) T rest l (sym (q .are-roles .ensures) ∙ not-true _ (c .if1 .taken)))
 
 cast-span : tie.Need-cast-span
@@ -41,7 +42,7 @@ span-requires c κs = search needs
 
 records-with-requires : tie.Need-records-with-requires
 records-with-requires c κs = let p = c .before .before .before in let q = p .before .before in
-    omega (arith, span-short (3 * p .count-roles .result) (drop 4 (q .args .st .now)) (c .span .result .now) (c .span .ensures))
+    omega (arith, span-short (3 * p .count-roles .result) (drop rolesFrom (q .args .st .now)) (c .span .result .now) (c .span .ensures))
 
 count-at-requires : tie.Need-count-at-requires
 count-at-requires c κs = search needs
@@ -61,7 +62,7 @@ simples-ok-requires c κs = search needs
 returns-2 : tie.Need-returns-2
 returns-2 c = let q = c .before in let u = q .before in let v = u .before in let w = v .before in let x = w .before in let y = x .before
     in let z = y .before in let b = z .before in let d = b .before .before in
-    refused-judges _ (d .args .st .now) 5 (λ T rest l. inclusion-5 (d .args .st .now) (d .args .r .0) (d .args .p .0)
+    refused-judges _ (d .args .st .now) 5 (omega arith) (λ T rest l. inclusion-5 (d .args .st .now) (d .args .r .0) (d .args .p .0)
     (b .count-roles .result) (b .count-roles .ensures .0) T rest l (x .span .result .now) (u .span2 .result .now)
     (w .records-with .result) (v .count-at .result) (x .span .ensures) (v .count-at .ensures .0) (u .span2 .ensures)
     (w .records-with .ensures) (sym (z .are-roles .ensures) ∙ not-false _ (y .if1 .left)) (sym (q .simples-ok .ensures) ∙ not-true _
@@ -73,7 +74,7 @@ everys-ok-requires c κs = search needs
 returns-3 : tie.Need-returns-3
 returns-3 c = let q = c .before in let u = q .before in let v = u .before in let w = v .before in let x = w .before in let y = x .before
     in let z = y .before in let b = z .before in let d = b .before in let e = d .before in let f = e .before .before in
-    refused-judges _ (f .args .st .now) 7 (λ T rest l. inclusion-7 (f .args .st .now) (f .args .r .0) (f .args .p .0)
+    refused-judges _ (f .args .st .now) 7 (omega arith) (λ T rest l. inclusion-7 (f .args .st .now) (f .args .r .0) (f .args .p .0)
     (e .count-roles .result) (e .count-roles .ensures .0) T rest l (z .span .result .now) (w .span2 .result .now)
     (y .records-with .result) (x .count-at .result) (z .span .ensures) (x .count-at .ensures .0) (w .span2 .ensures)
     (y .records-with .ensures) (sym (d .are-roles .ensures) ∙ not-false _ (b .if1 .left)) (sym (v .simples-ok .ensures) ∙ not-false _

@@ -5,6 +5,7 @@ use Rattle.edit_lay.specs.Lays.{sixBytes}
 use Rattle.edit_state.specs.RoleLaws.{changed-beyond}
 use Rattle.edit_state.specs.EditLaws.{short-edits, judged-edits, done-edits, allowed}
 use Rattle.edit_state.specs.ConceptLaws.{concept-put}
+use Rattle.edit_state.specs.Lent.{conceptsFrom, stateBytes}
 use native.Mathlib.Omega.{arith}
 use borrow.Author.Needs.{needs}
 use Rattle.edit_state.proofs.put_concept.Statement.{statement}
@@ -69,8 +70,8 @@ returns-3 c = let p = c .before .before in let q = p .before .before in let u = 
       a,
       p .lay-entry .ensures ∙ concept-put (w .args .st .now) (w .args .f) (q .count-at .result)
           (q .count-at .ensures .0) T rest l a,
-    )) (ap (drop 453) (p .lay-entry .ensures) ∙ changed-beyond (w .args .st .now) 1
-    (q .count-at .result + 1) (52 + 6 * q .count-at .result) (sixBytes (w .args .f)) (omega arith) (omega arith) (omega arith))
+    )) (ap (drop stateBytes) (p .lay-entry .ensures) ∙ changed-beyond (w .args .st .now) 1
+    (q .count-at .result + 1) (conceptsFrom + 6 * q .count-at .result) (sixBytes (w .args .f)) (omega arith) (omega arith) (omega arith))
 
 pub put-concept-spec : {M : Type 1} → statement M
 put-concept-spec =

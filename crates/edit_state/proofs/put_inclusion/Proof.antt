@@ -4,6 +4,7 @@ use lib.ListN.{drop}
 use Rattle.edit_state.specs.PlaceLaws.{laid-beyond}
 use Rattle.edit_state.specs.EditLaws.{short-edits, judged-edits, done-edits, allowed}
 use Rattle.edit_state.specs.InclusionLaws.{inclusion-put}
+use Rattle.edit_state.specs.Lent.{rolesFrom, stateBytes}
 use native.Mathlib.Omega.{arith}
 use borrow.Author.Needs.{needs}
 use Rattle.edit_state.proofs.put_inclusion.Statement.{statement}
@@ -55,7 +56,7 @@ returns-3 c = let q = c .before .before in let u = q .before .before .before in 
       a,
       q .lay-parent .ensures ∙ inclusion-put (w .args .st .now) (w .args .r .0)
           (w .args .p .0) T rest l a,
-    )) (ap (drop 453) (q .lay-parent .ensures) ∙ laid-beyond (w .args .st .now) (4 + 3 * (w .args .r .0 % 16))
+    )) (ap (drop stateBytes) (q .lay-parent .ensures) ∙ laid-beyond (w .args .st .now) (rolesFrom + 3 * (w .args .r .0 % 16))
     _ (omega arith) (omega arith))
 
 pub put-inclusion-spec : {M : Type 1} → statement M

@@ -4,6 +4,7 @@ use lib.ListN.{length-set}
 use Rattle.laying.specs.Numbers.{two}
 use Rattle.edit_state.specs.EditLaws.{short-edits, refused-edits, done-edits}
 use Rattle.edit_state.specs.RoleLaws.{changed-beyond, role-full, role-past, role-added}
+use Rattle.edit_state.specs.Lent.{rolesFrom}
 use native.Mathlib.Omega.{arith}
 use borrow.Author.Needs.{needs}
 use Rattle.edit_state.proofs.put_role.Statement.{statement}
@@ -24,7 +25,7 @@ same-length c = search needs
 
 returns-2 : tie.Need-returns-2
 returns-2 c = let p = c .before in let q = p .before .before .before .before in
-    refused-edits _ (q .args .st .now) 25 (omega arith) (λ T rest l. role-full (q .args .st .now) (q .args .transitive)
+    refused-edits _ (q .args .st .now) 25 (omega arith) (omega arith) (λ T rest l. role-full (q .args .st .now) (q .args .transitive)
     (p .count-roles .result) (p .count-roles .ensures .0) T rest l (omega arith))
 
 same-length-2 : tie.Need-same-length-2
@@ -32,7 +33,7 @@ same-length-2 c = search needs
 
 returns-3 : tie.Need-returns-3
 returns-3 c = let p = c .before .before in let q = p .before .before .before .before in
-    refused-edits _ (q .args .st .now) 3 (omega arith) (λ T rest l. role-past (q .args .st .now) (q .args .transitive)
+    refused-edits _ (q .args .st .now) 3 (omega arith) (omega arith) (λ T rest l. role-past (q .args .st .now) (q .args .transitive)
     (p .count-roles .result) (p .count-roles .ensures .0) T rest l (omega arith) (omega arith))
 
 add-st : tie.Need-add-st
@@ -62,7 +63,7 @@ returns-4 : tie.Need-returns-4
 returns-4 c = let p = c .before .before in let q = p .before .before .before .before in let u = q .before .before .before .before in
     done-edits _ (u .args .st .now) _ (omega arith) (λ T rest l. rw (p .lay-role .ensures) (role-added (u .args .st .now)
     (u .args .transitive) (q .count-roles .result) (q .count-roles .ensures .0) T rest l (omega arith) (omega arith))) (rw
-    (p .lay-role .ensures) (changed-beyond (u .args .st .now) 0 (q .count-roles .result + 1) (4 + 3 * q .count-roles .result)
+    (p .lay-role .ensures) (changed-beyond (u .args .st .now) 0 (q .count-roles .result + 1) (rolesFrom + 3 * q .count-roles .result)
     (u .args .transitive ∷ two 0) (omega arith) (omega arith) (omega arith)))
 
 pub put-role-spec : {M : Type 1} → statement M

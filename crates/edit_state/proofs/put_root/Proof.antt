@@ -3,6 +3,7 @@ use borrow.Author.Tests.{not-true, not-false}
 use lib.ListN.{length-set}
 use Rattle.edit_state.specs.EditLaws.{short-edits, refused-edits, done-edits}
 use Rattle.edit_state.specs.QueryLaws.{sets-beyond, root-past, root-put}
+use Rattle.edit_state.specs.Lent.{queryFrom}
 use native.Mathlib.Omega.{arith}
 use borrow.Author.Needs.{needs}
 use Rattle.edit_state.proofs.put_root.Statement.{statement}
@@ -26,7 +27,8 @@ same-length c = search needs
 
 returns-2 : tie.Need-returns-2
 returns-2 c = let p = c .before in let q = p .before in let u = q .before .before .before .before in
-    refused-edits _ (u .args .st .now) 8 (omega arith) (λ T rest l. root-past (u .args .st .now) (u .args .literal) (q .count-at .result)
+    refused-edits _ (u .args .st .now) 8 (omega arith) (omega arith) (λ T rest l. root-past (u .args .st .now) (u .args .literal)
+    (q .count-at .result)
     (q .count-at .ensures .0) T rest l (sym (p .is-literal .ensures) ∙ not-true _ (c .if2 .taken)))
 
 slice-write-st : tie.Need-slice-write-st
@@ -42,7 +44,7 @@ returns-3 : tie.Need-returns-3
 returns-3 c = let p = c .before in let q = p .before in let u = q .before .before .before .before in
     done-edits _ (u .args .st .now) _ (omega arith) (λ T rest l. root-put (u .args .st .now) (u .args .literal) (q .count-at .result)
     (q .count-at .ensures .0) T rest l (sym (p .is-literal .ensures) ∙ not-false _ (c .if2 .left))) (sets-beyond (u .args .st .now) 2 1
-    436 (u .args .literal) (omega arith) (omega arith))
+    queryFrom (u .args .literal) (omega arith) (omega arith))
 
 pub put-root-spec : {M : Type 1} → statement M
 put-root-spec =

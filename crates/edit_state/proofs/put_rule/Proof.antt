@@ -4,6 +4,7 @@ use borrow.Author.Tests.{not-true, not-false}
 use lib.ListN.{length-set}
 use Rattle.edit_state.specs.EditLaws.{short-edits, refused-edits, done-edits}
 use Rattle.edit_state.specs.QueryLaws.{sets-beyond, rule-full, rule-past, rule-added}
+use Rattle.edit_state.specs.Lent.{rulesFrom}
 use native.Mathlib.Omega.{arith}
 use borrow.Author.Needs.{needs}
 use Rattle.edit_state.proofs.put_rule.Statement.{statement}
@@ -24,7 +25,8 @@ same-length c = search needs
 
 returns-2 : tie.Need-returns-2
 returns-2 c = let p = c .before in let q = p .before .before .before .before in
-    refused-edits _ (q .args .st .now) 25 (omega arith) (λ T rest l. rule-full (q .args .st .now) (q .args .literal) _ refl T rest l
+    refused-edits _ (q .args .st .now) 25 (omega arith) (omega arith) (λ T rest l. rule-full (q .args .st .now)
+    (q .args .literal) _ refl T rest l
     (p .count-at .result) (p .count-at .ensures .0) (omega arith))
 
 count-at-requires-2 : tie.Need-count-at-requires-2
@@ -38,7 +40,7 @@ same-length-2 c = search needs
 
 returns-3 : tie.Need-returns-3
 returns-3 c = let p = c .before in let q = p .before in let u = q .before .before .before in let v = u .before .before .before .before in
-    refused-edits _ (v .args .st .now) 8 (omega arith) (λ T rest l. rule-past (v .args .st .now) (v .args .literal)
+    refused-edits _ (v .args .st .now) 8 (omega arith) (omega arith) (λ T rest l. rule-past (v .args .st .now) (v .args .literal)
     (q .count-at2 .result) (q .count-at2 .ensures .0) T rest l (u .count-at .result) (u .count-at .ensures .0) (omega arith) (sym
     (p .is-literal .ensures) ∙ not-true _ (c .if3 .taken)))
 
@@ -65,7 +67,7 @@ returns-4 : tie.Need-returns-4
 returns-4 c = let p = c .before in let q = p .before in let u = q .before .before .before in let v = u .before .before .before .before in
     done-edits _ (v .args .st .now) _ (omega arith) (λ T rest l. rule-added (v .args .st .now) (v .args .literal) (q .count-at2 .result)
     (q .count-at2 .ensures .0) T rest l (u .count-at .result) (u .count-at .ensures .0) (omega arith) (sym (p .is-literal .ensures) ∙
-    not-false _ (c .if3 .left))) (sets-beyond (v .args .st .now) 3 (u .count-at .result + 1) (437 + u .count-at .result)
+    not-false _ (c .if3 .left))) (sets-beyond (v .args .st .now) 3 (u .count-at .result + 1) (rulesFrom + u .count-at .result)
     (v .args .literal) (omega arith) (omega arith))
 
 pub put-rule-spec : {M : Type 1} → statement M

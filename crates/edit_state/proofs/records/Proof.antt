@@ -2,6 +2,7 @@ use Prim.Native.Nat.{_*_}
 use mathlib.Core.Path.{_∙_, ap}
 use lib.ListN.{take, drop}
 use Rattle.roles.specs.Records.{roleTable}
+use Rattle.edit_state.specs.Lent.{rolesFrom}
 use borrow.Author.Needs.{needs}
 use Rattle.edit_state.proofs.records.Statement.{statement}
 use Rattle.edit_state.proofs.records.Tie as tie
@@ -28,7 +29,7 @@ role-table-requires c κs = search needs
 
 returns : tie.Need-returns
 returns c = let p = c .before in let q = p .before in let u = q .before .before in
-    c .role-table .ensures ∙ ap roleTable (p .span .ensures ∙ ap (λ n. take (3 * n) (drop 4 (u .args .st .now)))
+    c .role-table .ensures ∙ ap roleTable (p .span .ensures ∙ ap (λ n. take (3 * n) (drop rolesFrom (u .args .st .now)))
     (q .count-roles .ensures .0))
 
 pub records-spec : {M : Type 1} → statement M

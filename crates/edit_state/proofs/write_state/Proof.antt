@@ -4,7 +4,8 @@ use mathlib.Core.Bool.{_&&_}
 use borrow.Author.Tests.{not-true, not-false}
 use lib.Dec.{eqb, leb}
 use lib.ListN.{drop}
-use Rattle.edit_state.specs.WriteLaws.{span-short, short-writes, refused-writes, done-writes, out-part, out-short, out-done}
+use Rattle.edit_state.specs.WriteLaws.{span-short, size-is, short-writes, refused-writes, done-writes, out-part, out-short, out-done}
+use Rattle.edit_state.specs.Lent.{rolesFrom, conceptsFrom, queryFrom}
 use native.Mathlib.Omega.{arith}
 use borrow.Author.Needs.{needs}
 use Rattle.edit_state.proofs.write_state.Statement.{statement}
@@ -36,7 +37,7 @@ is-whole-requires c κs = search needs
 returns-2 : tie.Need-returns-2
 returns-2 c = let p = c .before in let q = p .before in let u = q .before in let v = u .before in let w =
     v .before .before .before .before in
-    refused-writes (w .args .st .now) (w .args .buf .now) 2 (omega arith) (λ T rest l. out-part (w .args .st .now)
+    refused-writes (w .args .st .now) (w .args .buf .now) 2 (omega arith) (omega arith) (λ T rest l. out-part (w .args .st .now)
     (v .count-roles .result) (u .count-at .result) (v .count-roles .ensures .0) (u .count-at .ensures .0) T rest l _ (sym (ap (λ b. leb 1
     (v .count-roles .result) && (leb 1 (u .count-at .result) && eqb b 1)) (q .byte .ensures)) ∙ sym (p .is-whole .ensures) ∙ not-true _
     (c .if2 .taken)))
@@ -79,9 +80,9 @@ add-size-2 c = let p = c .before in let q = p .before in let u = q .before in le
     v .before in let x = w .before .before .before .before in
     omega (
       arith,
-      span-short (3 * w .count-roles .result) (drop 4 (x .args .st .now)) (u .span .result .now) (u .span .ensures),
-      span-short (6 * v .count-at .result) (drop 52 (x .args .st .now)) (q .span2 .result .now) (q .span2 .ensures),
-      span-short (1 + p .count-at2 .result) (drop 436 (x .args .st .now)) (c .span3 .result .now) (c .span3 .ensures),
+      span-short (3 * w .count-roles .result) (drop rolesFrom (x .args .st .now)) (u .span .result .now) (u .span .ensures),
+      span-short (6 * v .count-at .result) (drop conceptsFrom (x .args .st .now)) (q .span2 .result .now) (q .span2 .ensures),
+      span-short (1 + p .count-at2 .result) (drop queryFrom (x .args .st .now)) (c .span3 .result .now) (c .span3 .ensures),
     )
 
 add-size-3 : tie.Need-add-size-3
@@ -89,15 +90,15 @@ add-size-3 c = let p = c .before in let q = p .before in let u = q .before in le
     v .before in let x = w .before .before .before .before in
     omega (
       arith,
-      span-short (3 * w .count-roles .result) (drop 4 (x .args .st .now)) (u .span .result .now) (u .span .ensures),
-      span-short (6 * v .count-at .result) (drop 52 (x .args .st .now)) (q .span2 .result .now) (q .span2 .ensures),
-      span-short (1 + p .count-at2 .result) (drop 436 (x .args .st .now)) (c .span3 .result .now) (c .span3 .ensures),
+      span-short (3 * w .count-roles .result) (drop rolesFrom (x .args .st .now)) (u .span .result .now) (u .span .ensures),
+      span-short (6 * v .count-at .result) (drop conceptsFrom (x .args .st .now)) (q .span2 .result .now) (q .span2 .ensures),
+      span-short (1 + p .count-at2 .result) (drop queryFrom (x .args .st .now)) (c .span3 .result .now) (c .span3 .ensures),
     )
 
 returns-3 : tie.Need-returns-3
 returns-3 c = let p = c .before in let q = p .before in let u = q .before in let v = u .before in let w = v .before in let x = w .before
     in let y = x .before in let z = y .before in let d = z .before in let e = d .before .before .before .before in
-    refused-writes (e .args .st .now) (e .args .buf .now) 22 (omega arith) (λ T rest l. out-short (e .args .st .now)
+    refused-writes (e .args .st .now) (e .args .buf .now) 22 (omega arith) (omega arith) (λ T rest l. out-short (e .args .st .now)
     (d .count-roles .result) (z .count-at .result) (d .count-roles .ensures .0) (z .count-at .ensures .0) T rest l (q .count-at2 .result)
     (q .count-at2 .ensures .0) (v .span .result .now) (u .span2 .result .now) (p .span3 .result .now) (v .span .ensures)
     (u .span2 .ensures) (p .span3 .ensures) (e .args .buf .now) (sym (ap (λ b. leb 1 (d .count-roles .result) && (leb 1
@@ -109,10 +110,10 @@ lay-description-requires c κs = let p = c .before .before in let q = p .before 
       omega arith,
       omega (
         arith,
-        span-short (3 * x .count-roles .result) (drop 4 (y .args .st .now)) (v .span .result .now)
+        span-short (3 * x .count-roles .result) (drop rolesFrom (y .args .st .now)) (v .span .result .now)
             (v .span .ensures),
-        span-short (6 * w .count-at .result) (drop 52 (y .args .st .now)) (u .span2 .result .now) (u .span2 .ensures),
-        span-short (1 + q .count-at2 .result) (drop 436 (y .args .st .now)) (p .span3 .result .now) (p .span3 .ensures),
+        span-short (6 * w .count-at .result) (drop conceptsFrom (y .args .st .now)) (u .span2 .result .now) (u .span2 .ensures),
+        span-short (1 + q .count-at2 .result) (drop queryFrom (y .args .st .now)) (p .span3 .result .now) (p .span3 .ensures),
       ),
     )
 
@@ -124,15 +125,10 @@ returns-4 c = let p = c .before .before in let q = p .before .before .before in 
     v .before in let x = w .before in let y = x .before in let z = y .before in let d = z .before in let e = d .before in let f =
     e .before .before .before .before in
     rw (p .lay-description .ensures) (done-writes (f .args .st .now) (f .args .buf .now) (w .span .result .now) (v .span2 .result .now)
-    (q .span3 .result .now) (omega arith) (omega (
-      arith,
-      span-short (3 * e .count-roles .result) (drop 4 (f .args .st .now))
-          (w .span .result .now) (w .span .ensures),
-      span-short (6 * d .count-at .result) (drop 52 (f .args .st .now)) (v .span2 .result .now)
-          (v .span2 .ensures),
-      span-short (1 + u .count-at2 .result) (drop 436 (f .args .st .now)) (q .span3 .result .now)
-          (q .span3 .ensures),
-    )) (λ T rest l. out-done (f .args .st .now) (e .count-roles .result) (d .count-at .result)
+    (q .span3 .result .now) (omega arith) (size-is (f .args .st .now) (w .span .result .now) (v .span2 .result .now)
+    (q .span3 .result .now) _ _ _ (omega arith) (e .count-roles .ensures) (d .count-at .ensures) (u .count-at2 .ensures)
+    (w .span .ensures) (v .span2 .ensures) (q .span3 .ensures)) (λ T rest l. out-done (f .args .st .now) (e .count-roles .result)
+    (d .count-at .result)
     (e .count-roles .ensures .0) (d .count-at .ensures .0) T rest l (u .count-at2 .result) (u .count-at2 .ensures .0)
     (w .span .result .now) (v .span2 .result .now) (q .span3 .result .now) (w .span .ensures) (v .span2 .ensures) (q .span3 .ensures)
     (f .args .buf .now) (sym (ap (λ b. leb 1 (e .count-roles .result) && (leb 1 (d .count-at .result) && eqb b 1)) (z .byte .ensures)) ∙

@@ -1,6 +1,7 @@
 use mathlib.Core.Path.{ap}
 use lib.ListN.{replicate}
 use Rattle.editor.specs.StateLaws.{starts}
+use Rattle.edit_state.specs.Lent.{stateBytes}
 use borrow.Author.Needs.{needs}
 use Rattle.editor.proofs.start.Statement.{statement}
 use Rattle.editor.proofs.start.Tie as tie
@@ -15,7 +16,7 @@ records-requires : tie.Need-records-requires
 records-requires c κs = search needs
 
 returns : tie.Need-returns
-returns c = starts _ (ap (λ t. record { bytes = replicate 453 0; table = t }) (c .records .ensures))
+returns c = starts _ (ap (λ t. record { bytes = replicate stateBytes 0; table = t }) (c .records .ensures))
 
 pub start-spec : {M : Type 1} → statement M
 start-spec = tie.close (tie.spec slice-aggregate-records records-requires returns)
