@@ -8,7 +8,7 @@ use lib.ListN.{length, drop, length-append}
 use Rattle.logic.specs.Sets.{with}
 use Rattle.logic.specs.SetLaws.{single-word}
 use Rattle.laying.specs.Numbers.{two}
-use Rattle.laying.specs.Laying.{laid, laidFrom, laid-long, laid-pieces, laid-output}
+use Rattle.laying.specs.Laying.{laid, laidIn, laidFrom, laid-fits, laid-pieces, laid-output}
 use Rattle.edit_bytes.specs.Out.{withPairs}
 use Rattle.edit_lay.specs.Lays.{pairPieces, pairsOf, sizeWith, writtenOver}
 
@@ -19,17 +19,14 @@ parent-mask x p = ap (bitOr x) (single-word 16 (p % 16) (omega arith))
 
 -- the six numbers of the pairs
 pub pairs-laid : (old : List ℕ) (a b c : ℕ) → 12 ≤ length old
-    → laid (laid (laid (laid (laid (laid old 0 (two 12)) 2 (two a)) 4 (two (12 + a))) 6 (two b)) 8 (two (12 + a + b))) 10 (two c)
+    → laidIn (laidIn (laidIn (laidIn (laidIn (laidIn old 0 (two 12)) 2 (two a)) 4 (two (12 + a))) 6 (two b)) 8 (two (12 + a + b))) 10
+    (two c)
     ≡ laid old 0 (pairsOf a b c)
 unfolding laidFrom pairsOf flatten
 pairs-laid old a b c h = laid-pieces 0 (pairPieces a b c) old (omega arith)
 
-pub pairs-long : (old new : List ℕ) (a b c : ℕ) → 12 ≤ length old → new ≡ laid old 0 (pairsOf a b c) → length new ≡ length old
-unfolding pairsOf flatten
-pairs-long old new a b c h e = rw e (laid-long old 0 (pairsOf a b c) (omega arith))
-
 -- the three parts
-pub parts-laid : (old rs cs qs : List ℕ) → laid (laid (laid old 12 rs) (12 + length rs) cs) (12 + length rs + length cs) qs
+pub parts-laid : (old rs cs qs : List ℕ) → laidIn (laidIn (laidIn old 12 rs) (12 + length rs) cs) (12 + length rs + length cs) qs
     ≡ laidFrom 12 (rs ∷ cs ∷ qs ∷ []) old
 unfolding laidFrom
 parts-laid old rs cs qs = refl
@@ -43,7 +40,8 @@ pub description-laid : (old rs cs qs : List ℕ) → sizeWith rs cs qs ≤ lengt
     ≡ writtenOver old rs cs qs
 unfolding laidFrom pairsOf flatten
 description-laid old rs cs qs h =
-    laid-output pieces old (subst (λ w. length w ≤ length old) (sym out-is) (omega (arith, with-pairs-long rs cs qs)))
+    ap (laidFrom 12 (rs ∷ cs ∷ qs ∷ [])) (sym (laid-fits old 0 (pairsOf (length rs) (length cs) (length qs)) (omega arith)))
+    ∙ laid-output pieces old (subst (λ w. length w ≤ length old) (sym out-is) (omega (arith, with-pairs-long rs cs qs)))
     ∙ ap (λ w. w ++ drop (length w) old) out-is ∙ ap (λ n. withPairs rs cs qs ++ drop n old) (with-pairs-long rs cs qs)
   where
     pieces : List (List ℕ)

@@ -5,13 +5,13 @@ use lib.ListN.{length, drop}
 use Rattle.logic.specs.Sets.{with}
 use Rattle.parts.specs.Numbers.{byteAt, num2}
 use Rattle.laying.specs.Numbers.{two}
-use Rattle.laying.specs.Laying.{laid}
+use Rattle.laying.specs.Laying.{laidIn}
 use Rattle.tables.specs.declared.Fields.{Fields}
 use Rattle.edit_bytes.specs.Out.{withPairs}
 
 -- bytes with the bit of p in the parents of the role at a place
 abbrev pub withParent : List ℕ → ℕ → ℕ → List ℕ
-withParent bytes at p = laid bytes at (byteAt bytes at ∷ two (with (num2 bytes (at + 1)) p))
+withParent bytes at p = laidIn bytes at (byteAt bytes at ∷ two (with (num2 bytes (at + 1)) p))
 
 -- the six bytes of an entry
 abbrev pub sixBytes : Fields → List ℕ

@@ -13,7 +13,7 @@ use Rattle.logic.specs.Sets.{with}
 use Rattle.logic.specs.Refusals.{unless↔}
 use Rattle.parts.specs.Numbers.{byteAt, upTo}
 use Rattle.laying.specs.Numbers.{two}
-use Rattle.laying.specs.Laying.{laid}
+use Rattle.laying.specs.Laying.{laid, laid-fits}
 use Rattle.description.specs.Acceptance.{entriesTest, simplesTest, everysTest}
 use Rattle.roles.specs.declared.Role.{Role}
 use Rattle.roles.specs.Records.{roleTable}
@@ -26,8 +26,8 @@ use Rattle.edit_bytes.specs.OutLaws.{roles-long, byte-of, mask-of}
 use Rattle.edit_lay.specs.Lays.{withParent}
 use Rattle.edit_state.specs.Lent.{rolesRoom, conceptsRoom, queryRoom, rolesFrom, conceptsFrom, filled, flag, inBytes, draftBytes}
 use Rattle.edit_state.specs.Lent.{Lends, rolesIn, entriesIn, tableWith}
-use Rattle.edit_state.specs.FillLaws.{filled-front, filled-first, filled-set}
-use Rattle.edit_state.specs.PlaceLaws.{roles-count, entries-count, roles-read, concepts-read, role-byte-read, roles-laid}
+use Rattle.edit_state.specs.FillLaws.{filled-front, filled-first, filled-long, filled-set}
+use Rattle.edit_state.specs.PlaceLaws.{enough, roles-count, entries-count, roles-read, concepts-read, role-byte-read, roles-laid}
 use Rattle.edit_state.specs.TestLaws.{simples-held, everys-held}
 
 -- bytes that are there are read where they are filled up
@@ -70,7 +70,11 @@ module _ (T : Draft) (m : Made T) (r p : ℕ) (i : (ltb r (length (T .roles)) &&
   role-laid = filled-set 3 roleBytes (λ R. refl) rolesRoom (T .roles) r changed hr (omega (arith, roles-long U, roles-long T, as-many))
 
   parent-laid : withParent (filled rolesRoom (rolesOut T)) (3 * r) p ≡ filled rolesRoom (rolesOut U)
-  parent-laid = ap (laid (filled rolesRoom (rolesOut T)) (3 * r)) (three-are _ _ _ refl refl refl) ∙ role-laid
+  parent-laid = laid-fits (filled rolesRoom (rolesOut T)) (3 * r) _ (omega (arith, hr, made-few T m, long))
+      ∙ ap (laid (filled rolesRoom (rolesOut T)) (3 * r)) (three-are _ _ _ refl refl refl) ∙ role-laid
+    where
+      long : length (filled rolesRoom (rolesOut T)) ≡ rolesRoom
+      long = filled-long rolesRoom (rolesOut T) (omega (arith, made-few T m, roles-long T))
 
   table-is : tableWith (rolesOut T) (r % 16) (p % 16) ≡ roleTable (rolesOut U)
   table-is = ap₂ (tableWith (rolesOut T)) same-r same-p
@@ -135,6 +139,7 @@ pub inclusion-put : (old : List ℕ) (r p : ℕ) (T : Draft) (rest : List ℕ) �
     → withParent old (rolesFrom + 3 * (r % 16)) (p % 16) ≡ draftBytes (putIn T (inclusion r p)) ++ rest
 unfolding draftBytes conceptsOut
 inclusion-put old r p T rest w a = ap₂ (λ r p. withParent old (rolesFrom + 3 * r) p) (same-r T (w .made) r p i) (same-p T (w .made) r p i)
+    ∙ laid-fits old (rolesFrom + 3 * r) _ (omega (arith, enough old T rest w, small))
     ∙ ap (laid old (rolesFrom + 3 * r)) (three-are T (w .made) r p i _ _ _ (read (3 * r) (omega (arith, small)))
     (ap (byteAt old) (let z : rolesFrom + 3 * r + 1 ≡ rolesFrom + (3 * r + 1) = omega arith in z) ∙ read (3 * r + 1) (omega (arith, small)))
     (ap (byteAt old) (let z : rolesFrom + 3 * r + 1 + 1 ≡ rolesFrom + (3 * r + 1 + 1) = omega arith in z) ∙ read (3 * r + 1 + 1) (omega

@@ -1,4 +1,6 @@
 // The editor's state in bytes that a caller lends: each operation changes there what it changes, and no other byte.
+mod out;
+
 ghost use mathlib.Core.Path.{_≡_};
 ghost use Prim.Native.Nat.{_*_, _%_, _≤_};
 ghost use mathlib.Core.Bool.{_&&_};
@@ -11,7 +13,6 @@ ghost use Rattle.editing.specs.Editing.{newRole, inclusion, concept, newRoot, n
 ghost use Rattle.edit_state.specs.Lent.{rolesIn, tableIn, tableWith, lastTest, Starts, Edits, Judges, Writes};
 use answers::Change;
 use answers::Output;
-use edit_lay::lay_description;
 use edit_lay::lay_entry;
 use edit_lay::lay_parent;
 use edit_lay::lay_role;
@@ -22,6 +23,7 @@ use intake::simple_ok;
 use intake::simples_ok;
 use labels::MOST_ENTRIES;
 use laying::copy_bytes;
+use out::lay_description;
 use parts::byte;
 use parts::span;
 use parts::up_to;

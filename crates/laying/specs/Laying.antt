@@ -1,9 +1,13 @@
 -- Pieces laid into a buffer one behind the other (02, job 4): together they are the output, and what lies behind it stays.
 use Prim.Native.Nat.{ℕ, _+_, _-_, _≤_, _<_}
-use mathlib.Core.Path.{_≡_, sym, _∙_, ap, ap₂}
+use mathlib.Core.Path.{_≡_, refl, sym, _∙_, ap, ap₂}
+use mathlib.Core.Bool.{true, false, cond}
 use mathlib.Core.List.{List, [], _∷_, _++_, flatten, append-assoc}
 use native.Mathlib.Omega.{arith}
 use native.Mathlib.Nat.{zero-add, add-zero}
+use native.Mathlib.Decide.{decLe}
+use borrow.Author.Tests.{lt-leb, le-leb}
+use lib.Dec.{leb}
 use lib.ListN.{length, set, take, drop, length-append}
 use lib.Seq.{paste, paste-zero, paste-suc, length-paste, take-length, take-at, drop-append-add, drop-drop, length-take-le}
 
@@ -11,10 +15,29 @@ use lib.Seq.{paste, paste-zero, paste-suc, length-paste, take-length, take-at, d
 unfoldable pub laid : List ℕ → ℕ → List ℕ → List ℕ
 laid old at text = take at old ++ text ++ drop (at + length text) old
 
+-- what a function lays: the text if it fits, else nothing
+unfoldable pub laidIn : List ℕ → ℕ → List ℕ → List ℕ
+laidIn old at text = cond (leb (at + length text) (length old)) (laid old at text) old
+
 -- pieces from a place on, one behind the other
 unfoldable pub laidFrom : ℕ → List (List ℕ) → List ℕ → List ℕ
 laidFrom at [] old = old
-laidFrom at (w ∷ ws) old = laidFrom (at + length w) ws (laid old at w)
+laidFrom at (w ∷ ws) old = laidFrom (at + length w) ws (laidIn old at w)
+
+-- ---- the test
+pub leb-minus : (at n room : ℕ) → n ≤ room → leb at (room - n) ≡ leb (at + n) room
+leb-minus at n room h = elim (decLe (at + n) room) [
+  | yes l ↦ le-leb at (room - n) (omega arith) ∙ sym (le-leb (at + n) room l)
+  | no l ↦ lt-leb at (room - n) (omega arith) ∙ sym (lt-leb (at + n) room (omega arith))
+]
+
+pub laid-past : (old : List ℕ) (at : ℕ) (text : List ℕ) → leb (at + length text) (length old) ≡ false → old ≡ laidIn old at text
+unfolding laidIn
+laid-past old at text h = rw h refl
+
+pub laid-fits : (old : List ℕ) (at : ℕ) (text : List ℕ) → at + length text ≤ length old → laidIn old at text ≡ laid old at text
+unfolding laidIn
+laid-fits old at text h = rw (le-leb (at + length text) (length old) h) refl
 
 -- ---- stores
 -- all of the text that is copied is laid
@@ -72,7 +95,8 @@ pub laid-pieces : (at : ℕ) (ws : List (List ℕ)) (old : List ℕ) → at + le
 unfolding laidFrom flatten
 laid-pieces at [] old h = paste-zero old at [] ∙ laid-copied old at []
 laid-pieces at (w ∷ ws) old h = let l = length-append w (flatten ws) in
-    laid-pieces (at + length w) ws (laid old at w) (omega (arith, laid-long old at w (omega arith)))
+    ap (laidFrom (at + length w) ws) (laid-fits old at w (omega arith)) ∙ laid-pieces (at + length w) ws (laid old at w) (omega
+    (arith, laid-long old at w (omega arith)))
     ∙ laid-on old at w (flatten ws) (omega arith)
 
 -- so from the front on they leave their bytes, and behind them the old ones: what a writer leaves if nothing refuses

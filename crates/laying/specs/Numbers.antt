@@ -12,7 +12,8 @@ use lib.Seq.{drop-append-seam}
 use Rattle.parts.specs.Numbers.{byteAt, num2}
 use Rattle.labels.specs.Blocks.{block, block-lt}
 use Rattle.labels.specs.Labels.{labelBytes, num8, labelIn}
-use Rattle.laying.specs.Places.{Stands, stands-end, first, second, byte, part, stands-none, stands-append, stands-more, Small, small-none, small-more, small-append, small-at}
+use Rattle.laying.specs.Places.{Stands, stands-end, first, second, byte, part, stands-none, stands-append, stands-more, Small}
+use Rattle.laying.specs.Places.{small-none, small-more, small-append, small-at}
 
 abbrev pub two : ℕ → List ℕ
 two n = n / 256 ∷ n % 256 ∷ []
@@ -56,7 +57,8 @@ twice {w} {write} {read} k = record {
   back = λ {s} {at} n h. ap₂ (block (8 * w)) (k .back (high n) (first (write (high n)) (write (low n)) h))
       (k .back (low n) (rw (k .long (high n)) at (second (write (high n)) (write (low n)) h))) ∙ split n (8 * w);
   small = λ n h. let e : 8 * (2 * w) ≡ 8 * w + 8 * w = omega arith in
-      small-append (write (high n)) (k .small (high n) (shr-lt (8 * w) (8 * w) (rw e at h))) (k .small (low n) (mod-lt n (pow-pos (8 * w))));
+      small-append (write (high n)) (k .small (high n) (shr-lt (8 * w) (8 * w) (rw e at h))) (k .small (low n) (mod-lt n (pow-pos
+      (8 * w))));
   again = λ {s} {at} b h. let l = k .fits (at + w) b in
       rw (Pow.high (read s at) (8 * w) l, Pow.low (read s at) (8 * w) l) (stands-append (write (read s at)) (write (read s (at + w)))
       (k .again b (omega arith)) (rw (k .long (read s at)) (k .again b (omega arith))));
@@ -87,9 +89,11 @@ module _ (broad : Bool) where
   label-back n after = label-bytes broad .back n (first (label broad n) after (stands-end [] (label broad n ++ after)))
 
   pub label-behind : (n : ℕ) (after : List ℕ) → drop (labelBytes broad) (label broad n ++ after) ≡ after
-  label-behind n after = ap (λ w. drop w (label broad n ++ after)) (sym (label-bytes broad .long n)) ∙ drop-append-seam (label broad n) after
+  label-behind n after = ap (λ w. drop w (label broad n ++ after)) (sym (label-bytes broad .long n)) ∙ drop-append-seam
+      (label broad n) after
 
   pub label-again : {r : List ℕ} (after : List ℕ) → Small r → labelBytes broad ≤ length r → after ≡ drop (labelBytes broad) r
       → label broad (labelIn broad r 0) ++ after ≡ r
   label-again {r} after b h e = let n = labelIn broad r 0 in
-      ap₂ _++_ (sym (part (label broad n) (label-bytes broad .again {at = 0} b (omega arith))) ∙ ap (λ w. take w r) (label-bytes broad .long n)) e ∙ take-append-drop (labelBytes broad) r
+      ap₂ _++_ (sym (part (label broad n) (label-bytes broad .again {at = 0} b (omega arith))) ∙ ap (λ w. take w r)
+      (label-bytes broad .long n)) e ∙ take-append-drop (labelBytes broad) r

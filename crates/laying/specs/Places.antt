@@ -66,12 +66,17 @@ module _ {s : List ℕ} {at : ℕ} where
     same = λ i l. elim (decLt i (length u)) [
       | yes k ↦ a .same i k ∙ sym (List·getD-append u v 0 i k)
       | no k ↦ (let e : length u + (i - length u) ≡ i = omega arith in let z : at + length u + (i - length u) ≡ at + i = omega arith in
-          subst (λ j. byteAt s (at + i) ≡ byteAt (u ++ v) j) e (rw z at (b .same (i - length u) (omega (arith, length-append u v))) ∙ sym (getD-append-add u v (i - length u) 0)))
+          subst (λ j. byteAt s (at + i) ≡ byteAt (u ++ v) j) e (rw z at (b .same (i - length u) (omega (arith, length-append u v)))
+          ∙ sym (getD-append-add u v (i - length u) 0)))
     ];
   }
 
   pub stands-more : (b : ℕ) (w : List ℕ) → byteAt s at ≡ b → Stands s (at + 1) w → Stands s at (b ∷ w)
-  stands-more b w e h = stands-append (b ∷ []) w (record { inside = omega (arith, h .inside); same = λ i l. let z : i ≡ 0 = omega arith in rw (z, add-zero) e }) h
+  stands-more b w e h = stands-append (b ∷ []) w (record {
+    inside = omega (arith, h .inside);
+    same = λ i l. let z : i
+        ≡ 0 = omega arith in rw (z, add-zero) e;
+  }) h
 
 -- what stands there and is as long is the whole
 pub stands-whole : {s : List ℕ} (w : List ℕ) → Stands s 0 w → length w ≡ length s → w ≡ s
@@ -86,40 +91,53 @@ pub stands-piece : (ws : List (List ℕ)) (d : List ℕ) (i : ℕ) → i < lengt
 unfolding flatten
 stands-piece [] d i h = absurd (omega arith)
 stands-piece (w ∷ ws) d zero h = first w (flatten ws) (stands-end [] (w ++ flatten ws))
-stands-piece (w ∷ ws) d (suc i) h = rw (length-append w (flatten (take i ws))) (stands-in (stands-end w (flatten ws)) (stands-piece ws d i (omega arith)))
+stands-piece (w ∷ ws) d (suc i) h = rw (length-append w (flatten (take i ws))) (stands-in (stands-end w (flatten ws))
+    (stands-piece ws d i (omega arith)))
 
 -- a piece begins where its predecessor ends
 pub before-next : (ws : List (List ℕ)) (d : List ℕ) (i : ℕ) → i < length ws → before ws (suc i) ≡ before ws i + length (getD ws i d)
 unfolding flatten
 before-next [] d i h = absurd (omega arith)
 before-next (w ∷ ws) d zero h = omega (arith, length-append w [])
-before-next (w ∷ ws) d (suc i) h = omega (arith, before-next ws d i (omega arith), length-append w (flatten (take (suc i) ws)), length-append w (flatten (take i ws)))
+before-next (w ∷ ws) d (suc i) h = omega (
+  arith,
+  before-next ws d i (omega arith),
+  length-append w (flatten (take
+      (suc i) ws)),
+  length-append w (flatten (take i ws)),
+)
 
 -- the last ends where they all end
 pub before-all : (ws : List (List ℕ)) → before ws (length ws) ≡ length (flatten ws)
 before-all ws = ap (λ vs. length (flatten vs)) (take-length ws)
 
 -- by how long the pieces are at least and at most
-pub before-between : (a b : ℕ) (ws : List (List ℕ)) (d : List ℕ) → ((i : ℕ) → i < length ws → (a ≤ length (getD ws i d)) × (length (getD ws i d) ≤ b))
+pub before-between : (a b : ℕ) (ws : List (List ℕ)) (d : List ℕ) → ((i : ℕ) → i < length ws → (a ≤ length (getD ws i d)) × (length
+    (getD ws i d) ≤ b))
     → (i : ℕ) → i ≤ length ws → (a * i ≤ before ws i) × (before ws i ≤ b * i)
 unfolding flatten
 before-between a b ws d h zero l = omega arith
 before-between a b ws d h (suc i) l = omega (arith, before-next ws d i l, h i l, before-between a b ws d h i (omega arith))
 
-pub before-even : (k : ℕ) (ws : List (List ℕ)) (d : List ℕ) → ((i : ℕ) → i < length ws → length (getD ws i d) ≡ k) → (i : ℕ) → i ≤ length ws → before ws i ≡ k * i
+pub before-even : (k : ℕ) (ws : List (List ℕ)) (d : List ℕ) → ((i : ℕ) → i < length ws → length (getD ws i d) ≡ k) → (i : ℕ)
+    → i ≤ length ws → before ws i ≡ k * i
 before-even k ws d e i l = omega (arith, before-between k k ws d (λ j h. omega (arith, e j h)) i l)
 
 -- pieces that stand one after another
-pub stands-flatten : {s : List ℕ} {at : ℕ} (ws : List (List ℕ)) → at ≤ length s → ((i : ℕ) → i < length ws → Stands s (at + before ws i) (getD ws i [])) → Stands s at (flatten ws)
+pub stands-flatten : {s : List ℕ} {at : ℕ} (ws : List (List ℕ)) → at ≤ length s → ((i : ℕ) → i < length ws → Stands s (at + before ws i)
+    (getD ws i [])) → Stands s at (flatten ws)
 unfolding flatten
 stands-flatten [] l h = stands-none l
 stands-flatten {s} {at} (w ∷ ws) l h = let a : Stands s at w = rw add-zero at (h 0 (omega arith)) in
     stands-append w (flatten ws) a (stands-flatten ws (a .inside) (λ i k.
-    let z : at + before (w ∷ ws) (suc i) ≡ at + length w + before ws i = omega (arith, length-append w (flatten (take i ws))) in rw z at (h (suc i) (omega arith))))
+    let z : at + before (w ∷ ws) (suc i) ≡ at + length w + before ws i = omega (arith, length-append w (flatten (take i ws))) in rw z at
+    (h (suc i) (omega arith))))
 
 -- ---- a list read off by number is the list
-pub read-off : {A : Type 0} (d : A) (xs : List A) (n : ℕ) (f : ℕ → A) → n ≡ length xs → ((i : ℕ) → i < n → f i ≡ getD xs i d) → tabulate n f ≡ xs
-read-off d xs n f e h = ext-getD d (tabulate n f) xs (length-tabulate n f ∙ e) (λ i l. let k : i < n = omega (arith, length-tabulate n f) in at-tabulate n f d i k ∙ h i k)
+pub read-off : {A : Type 0} (d : A) (xs : List A) (n : ℕ) (f : ℕ → A) → n ≡ length xs → ((i : ℕ) → i < n → f i ≡ getD xs i d)
+    → tabulate n f ≡ xs
+read-off d xs n f e h = ext-getD d (tabulate n f) xs (length-tabulate n f ∙ e) (λ i l. let k : i < n = omega
+    (arith, length-tabulate n f) in at-tabulate n f d i k ∙ h i k)
 
 pub at-map : {A B : Type 0} (f : A → B) (xs : List A) (d : A) (e : B) (i : ℕ) → i < length xs → getD (map f xs) i e ≡ f (getD xs i d)
 at-map f [] d e i h = absurd (omega arith)

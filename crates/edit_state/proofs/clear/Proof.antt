@@ -1,4 +1,9 @@
 use Rattle.edit_state.specs.EditLaws.{short-starts, done-starts}
+use mathlib.Core.Path.{_∙_}
+use native.Mathlib.Omega.{arith}
+use lib.ListN.{replicate}
+use Rattle.laying.specs.Laying.{laid-fits}
+use Rattle.edit_state.specs.Lent.{stateBytes}
 use borrow.Author.Needs.{needs}
 use Rattle.edit_state.proofs.clear.Statement.{statement}
 use Rattle.edit_state.proofs.clear.Tie as tie
@@ -19,7 +24,8 @@ same-length : tie.Need-same-length
 same-length c = search needs
 
 returns-2 : tie.Need-returns-2
-returns-2 c = rw (c .before .before .copy-bytes .ensures) (done-starts _ (c .before .before .before .before .before .if1 .left))
+returns-2 c = rw (c .before .before .copy-bytes .ensures ∙ laid-fits _ 0 (replicate stateBytes 0) (omega arith)) (done-starts _
+    (c .before .before .before .before .before .if1 .left))
 
 pub clear-spec : {M : Type 1} → statement M
 clear-spec =

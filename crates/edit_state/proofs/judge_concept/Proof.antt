@@ -3,7 +3,7 @@ use mathlib.Core.Path.{_∙_, sym, ap, refl}
 use borrow.Author.Tests.{not-true, not-false}
 use lib.ListN.{take, drop}
 use Rattle.parts.specs.Numbers.{upTo}
-use Rattle.laying.specs.Laying.{laid}
+use Rattle.laying.specs.Laying.{laid, laid-fits}
 use Rattle.edit_lay.specs.Lays.{sixBytes}
 use Rattle.answers.specs.Answers.{ofChange}
 use Rattle.edit_state.specs.WriteLaws.{span-short}
@@ -62,8 +62,7 @@ span-requires : tie.Need-span-requires
 span-requires c κs = search needs
 
 copy-bytes-requires : tie.Need-copy-bytes-requires
-copy-bytes-requires c κs = let p = c .before .before .before .before .before .before in let q = p .before .before in
-    omega (arith, span-short (6 * p .count-at .result) (drop conceptsFrom (q .args .st .now)) (c .span .result .now) (c .span .ensures))
+copy-bytes-requires c κs = search needs
 
 slice-aggregate-lay-entry : tie.Need-slice-aggregate-lay-entry
 slice-aggregate-lay-entry c = search needs
@@ -97,7 +96,12 @@ returns-3 c = let p = c .before in let q = p .before in let u = q .before .befor
           (e .count-at .result) (z .count-roles .ensures .0) (e .count-at .ensures .0) T rest l (w .span .result .now)
           (q .span2 .result .now)
           (p .records .result) (w .span .ensures) (q .span2 .ensures ∙ ap (λ b. take (6 * e .count-at .result + 6) (drop 0 b))
-          (u .lay-entry .ensures ∙ ap (λ b. laid b (6 * e .count-at .result) (sixBytes (g .args .f))) (v .copy-bytes .ensures)))
+          (u .lay-entry .ensures ∙ laid-fits _ _ _ (omega arith) ∙ ap (λ b. laid b (6 * e .count-at .result) (sixBytes (g .args .f)))
+          (v .copy-bytes .ensures ∙ laid-fits _ 0 (w .span .result .now) (omega (
+            arith,
+            span-short (6 * e .count-at .result)
+                (drop conceptsFrom (g .args .st .now)) (w .span .result .now) (w .span .ensures),
+          )))))
           (p .records .ensures) (omega (arith, d .if1 .left)) (sym (y .fields-ok .ensures) ∙ not-false _ (x .if2 .left));
     }
 

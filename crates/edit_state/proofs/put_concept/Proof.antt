@@ -1,6 +1,7 @@
 use Prim.Native.Nat.{_+_, _*_}
 use mathlib.Core.Path.{_∙_, ap}
-use lib.ListN.{drop, length-set}
+use lib.ListN.{set, drop, length-set}
+use Rattle.laying.specs.Laying.{laid-fits}
 use Rattle.edit_lay.specs.Lays.{sixBytes}
 use Rattle.edit_state.specs.RoleLaws.{changed-beyond}
 use Rattle.edit_state.specs.EditLaws.{short-edits, judged-edits, done-edits, allowed}
@@ -54,8 +55,7 @@ add-lay-entry : tie.Need-add-lay-entry
 add-lay-entry c = search needs
 
 lay-entry-requires : tie.Need-lay-entry-requires
-lay-entry-requires c κs = let p = c .before in let q = p .before .before .before .before .before .before .before .before in
-    omega (arith, length-set (q .args .st .now) 1 (p .count-at .result + 1))
+lay-entry-requires c κs = search needs
 
 same-length-2 : tie.Need-same-length-2
 same-length-2 c = let p = c .before .before .before .before in let q = p .before .before .before .before .before .before .before .before
@@ -64,14 +64,15 @@ same-length-2 c = let p = c .before .before .before .before in let q = p .before
 
 returns-3 : tie.Need-returns-3
 returns-3 c = let p = c .before .before in let q = p .before .before in let u = q .before .before in let v = u .before .before in let w =
-    v .before .before .before .before in
-    done-edits _ (w .args .st .now) _ (omega arith) (λ T rest l. let a = allowed _ (w .args .st .now) _ (u .enum-told .given .1)
-    (v .judge-concept .ensures) T rest l in (
+    v .before .before .before .before in let st = w .args .st .now in let e = q .count-at .result in
+    let laid-is = p .lay-entry .ensures ∙ laid-fits (set st 1 (e + 1)) (conceptsFrom + 6 * e) (sixBytes (w .args .f))
+    (omega (arith, length-set st 1 (e + 1))) in
+    done-edits _ st _ (omega arith) (λ T rest l. let a = allowed _ st _ (u .enum-told .given .1) (v .judge-concept .ensures) T rest l in (
       a,
-      p .lay-entry .ensures ∙ concept-put (w .args .st .now) (w .args .f) (q .count-at .result)
-          (q .count-at .ensures .0) T rest l a,
-    )) (ap (drop stateBytes) (p .lay-entry .ensures) ∙ changed-beyond (w .args .st .now) 1
-    (q .count-at .result + 1) (conceptsFrom + 6 * q .count-at .result) (sixBytes (w .args .f)) (omega arith) (omega arith) (omega arith))
+      laid-is ∙ concept-put st (w .args .f) e (q .count-at .ensures .0) T rest l a,
+    )) (ap (drop stateBytes) laid-is ∙ changed-beyond st 1 (e + 1) (conceptsFrom + 6 * e) (sixBytes (w .args .f)) (omega arith)
+    (omega arith)
+    (omega arith))
 
 pub put-concept-spec : {M : Type 1} → statement M
 put-concept-spec =

@@ -1,6 +1,7 @@
 use Prim.Native.Nat.{_+_, _*_, _%_}
 use mathlib.Core.Path.{_∙_, ap}
 use lib.ListN.{drop}
+use Rattle.laying.specs.Laying.{laid-fits}
 use Rattle.edit_state.specs.PlaceLaws.{laid-beyond}
 use Rattle.edit_state.specs.EditLaws.{short-edits, judged-edits, done-edits, allowed}
 use Rattle.edit_state.specs.InclusionLaws.{inclusion-put}
@@ -56,7 +57,8 @@ returns-3 c = let q = c .before .before in let u = q .before .before .before in 
       a,
       q .lay-parent .ensures ∙ inclusion-put (w .args .st .now) (w .args .r .0)
           (w .args .p .0) T rest l a,
-    )) (ap (drop stateBytes) (q .lay-parent .ensures) ∙ laid-beyond (w .args .st .now) (rolesFrom + 3 * (w .args .r .0 % 16))
+    )) (ap (drop stateBytes) (q .lay-parent .ensures ∙ laid-fits _ _ _ (omega arith)) ∙ laid-beyond (w .args .st .now) (rolesFrom + 3 *
+    (w .args .r .0 % 16))
     _ (omega arith) (omega arith))
 
 pub put-inclusion-spec : {M : Type 1} → statement M

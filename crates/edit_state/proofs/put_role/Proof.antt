@@ -1,6 +1,8 @@
 use Prim.Native.Nat.{_+_, _*_}
+use mathlib.Core.Path.{_∙_}
 use mathlib.Core.List.{_∷_}
-use lib.ListN.{length-set}
+use lib.ListN.{set, length-set}
+use Rattle.laying.specs.Laying.{laid-fits}
 use Rattle.laying.specs.Numbers.{two}
 use Rattle.edit_state.specs.EditLaws.{short-edits, refused-edits, done-edits}
 use Rattle.edit_state.specs.RoleLaws.{changed-beyond, role-full, role-past, role-added}
@@ -52,19 +54,20 @@ add-lay-role : tie.Need-add-lay-role
 add-lay-role c = search needs
 
 lay-role-requires : tie.Need-lay-role-requires
-lay-role-requires c κs = let p = c .before .before .before in let q = p .before .before .before .before in
-    omega (arith, length-set (q .args .st .now) 0 (p .count-roles .result + 1))
+lay-role-requires c κs = search needs
 
 same-length-3 : tie.Need-same-length-3
 same-length-3 c = let p = c .before .before .before .before .before .before in let q = p .before .before .before .before in
     omega (arith, length-set (q .args .st .now) 0 (p .count-roles .result + 1))
 
 returns-4 : tie.Need-returns-4
-returns-4 c = let p = c .before .before in let q = p .before .before .before .before in let u = q .before .before .before .before in
-    done-edits _ (u .args .st .now) _ (omega arith) (λ T rest l. rw (p .lay-role .ensures) (role-added (u .args .st .now)
-    (u .args .transitive) (q .count-roles .result) (q .count-roles .ensures .0) T rest l (omega arith) (omega arith))) (rw
-    (p .lay-role .ensures) (changed-beyond (u .args .st .now) 0 (q .count-roles .result + 1) (rolesFrom + 3 * q .count-roles .result)
-    (u .args .transitive ∷ two 0) (omega arith) (omega arith) (omega arith)))
+returns-4 c = let p = c .before .before in let q = p .before .before .before .before in let u = q .before .before .before .before in let st =
+    u .args .st .now in let n = q .count-roles .result in
+    let laid-is = p .lay-role .ensures ∙ laid-fits (set st 0 (n + 1)) (rolesFrom + 3 * n) (u .args .transitive ∷ two 0)
+    (omega (arith, length-set st 0 (n + 1))) in
+    done-edits _ st _ (omega arith) (λ T rest l. rw laid-is (role-added st (u .args .transitive) n (q .count-roles .ensures .0) T rest l
+    (omega arith) (omega arith))) (rw laid-is (changed-beyond st 0 (n + 1) (rolesFrom + 3 * n) (u .args .transitive ∷ two 0) (omega arith)
+    (omega arith) (omega arith)))
 
 pub put-role-spec : {M : Type 1} → statement M
 put-role-spec =

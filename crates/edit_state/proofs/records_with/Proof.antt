@@ -1,7 +1,9 @@
 use Prim.Native.Nat.{_*_, _%_}
 use mathlib.Core.Path.{_∙_, ap}
+use native.Mathlib.Omega.{arith}
 use lib.ListN.{length, take, drop}
 use Rattle.roles.specs.Records.{roleTable}
+use Rattle.laying.specs.Laying.{laid-fits}
 use Rattle.edit_lay.specs.Lays.{withParent}
 use borrow.Author.Needs.{needs}
 use Rattle.edit_state.proofs.records_with.Statement.{statement}
@@ -44,7 +46,8 @@ returns : tie.Need-returns
 returns c = let q = c .before in let u = q .before .before .before in let v = u .before .before .before .before in let w =
     v .before .before .before in
     c .role-table .ensures ∙ ap roleTable (q .span .ensures ∙ ap (λ b. take (length (w .args .rs .now)) (drop 0 b))
-    (u .lay-parent .ensures ∙ ap (λ b. withParent b (3 * (w .args .r .0 % 16)) (w .args .p .0 % 16)) (v .copy-bytes .ensures)))
+    (u .lay-parent .ensures ∙ ap (λ b. withParent b (3 * (w .args .r .0 % 16)) (w .args .p .0 % 16)) (v .copy-bytes .ensures
+    ∙ laid-fits _ 0 (w .args .rs .now) (omega arith))))
 
 pub records-with-spec : {M : Type 1} → statement M
 records-with-spec =

@@ -12,7 +12,7 @@ use Rattle.edit_state.proofs.write_state.Statement.{statement}
 use Rattle.edit_state.proofs.write_state.Tie as tie
 use Rattle.edit_state.proofs.write_state.Reads as reads
 use Rattle.edit_state.proofs.write_state.Lts as lts
-use Rattle.edit_lay.proofs.lay_description.Reads as lay-description-reads
+use Rattle.edit_state.proofs.out.lay_description.Reads as lay-description-reads
 use Rattle.edit_state.proofs.count_at.Reads as count-at-reads
 use Rattle.edit_state.proofs.count_roles.Reads as count-roles-reads
 use Rattle.edit_state.proofs.is_whole.Reads as is-whole-reads

@@ -1,12 +1,12 @@
 use Rattle.edit_lay.specs.LayLaws.{description-laid}
 use native.Mathlib.Omega.{arith}
 use borrow.Author.Needs.{needs}
-use Rattle.edit_lay.proofs.lay_description.Statement.{statement}
-use Rattle.edit_lay.proofs.lay_description.Tie as tie
-use Rattle.edit_lay.proofs.lay_description.Reads as reads
-use Rattle.edit_lay.proofs.lay_description.Lts as lts
-use Rattle.edit_lay.proofs.lay_pairs.Reads as lay-pairs-reads
-use Rattle.edit_lay.proofs.lay_parts.Reads as lay-parts-reads
+use Rattle.edit_state.proofs.out.lay_description.Statement.{statement}
+use Rattle.edit_state.proofs.out.lay_description.Tie as tie
+use Rattle.edit_state.proofs.out.lay_description.Reads as reads
+use Rattle.edit_state.proofs.out.lay_description.Lts as lts
+use Rattle.edit_state.proofs.out.lay_pairs.Reads as lay-pairs-reads
+use Rattle.edit_state.proofs.out.lay_parts.Reads as lay-parts-reads
 
 cast-lay-pairs : tie.Need-cast-lay-pairs
 cast-lay-pairs c = search needs
@@ -27,7 +27,8 @@ same-length : tie.Need-same-length
 same-length c = search needs
 
 returns : tie.Need-returns
-returns c = rw (c .before .before .lay-parts .ensures, c .before .before .before .before .before .before .lay-pairs .ensures) (description-laid _ _ _ _ (omega arith))
+returns c = rw (c .before .before .lay-parts .ensures, c .before .before .before .before .before .before .lay-pairs .ensures)
+    (description-laid _ _ _ _ (omega arith))
 
 pub lay-description-spec : {M : Type 1} → statement M
 lay-description-spec =

@@ -1,9 +1,9 @@
 use Rattle.edit_lay.specs.LayLaws.{parts-laid}
 use borrow.Author.Needs.{needs}
-use Rattle.edit_lay.proofs.lay_parts.Statement.{statement}
-use Rattle.edit_lay.proofs.lay_parts.Tie as tie
-use Rattle.edit_lay.proofs.lay_parts.Reads as reads
-use Rattle.edit_lay.proofs.lay_parts.Lts as lts
+use Rattle.edit_state.proofs.out.lay_parts.Statement.{statement}
+use Rattle.edit_state.proofs.out.lay_parts.Tie as tie
+use Rattle.edit_state.proofs.out.lay_parts.Reads as reads
+use Rattle.edit_state.proofs.out.lay_parts.Lts as lts
 use Rattle.laying.proofs.copy_bytes.Reads as copy-bytes-reads
 
 copy-bytes-requires : tie.Need-copy-bytes-requires
