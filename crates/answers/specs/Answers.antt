@@ -95,9 +95,13 @@ abbrev pub unlessRefused : {A : Type 0} → A → A → Option Refusal → A
 unlessRefused kept done none = done
 unlessRefused kept done (some x) = kept
 
--- the buffer after any writer: its output and then the old bytes; on a refusal all bytes are as before
+-- an output, and then the old bytes
+abbrev pub over : List ℕ → List ℕ → List ℕ
+over out old = out ++ drop (length out) old
+
+-- the buffer after any writer: its output over the old bytes; on a refusal all bytes are as before
 abbrev pub buffered : List ℕ → List ℕ → Option Refusal → List ℕ
-buffered out old o = unlessRefused old (out ++ drop (length out) old) o
+buffered out old o = unlessRefused old (over out old) o
 
 -- ---- the case that a word tells
 pub inhabited↔ : (v : Verdicts.Verdict) → (ofVerdict v ≡ answer INHABITED none) ↔ (v ≡ Verdicts.the-variants.Inhabited)

@@ -9,4 +9,3 @@ pub mod Steps
 pub mod ClaimExact
 pub mod ClaimTrials
 pub mod WideTrials
-pub mod Writers

@@ -14,17 +14,20 @@ use Rattle.logic.specs.Tests.{So, so-and, leb-so}
 use Rattle.logic.specs.Lists.{tabulate, length-tabulate, at-tabulate}
 use Rattle.parts.specs.Numbers.{byteAt, num2}
 use Rattle.parts.specs.Pairs.{offsetAt, lengthAt, endAt, partAt, pair-inside}
-use Rattle.laying.specs.Places.{Stands, stands-part, stands-append, stands-more, stands-whole, before, before-even, before-all, stands-flatten, at-map, Small, small-in}
+use Rattle.laying.specs.Places.{Stands, stands-part, stands-append, stands-more, stands-whole, before, before-even, before-all}
+use Rattle.laying.specs.Places.{stands-flatten, at-map, Small, small-in}
 use Rattle.laying.specs.Numbers.{two, two-bytes}
 use Rattle.description.specs.Descriptions.{Fields, fieldsOf, top}
 use Rattle.tables.specs.Tables.{fieldsAt}
 use Rattle.labels.specs.Labels.{mostEntries}
-use Rattle.intake.specs.Intake.{rolesPart, conceptsPart, queryPart, described, mostRoles, mostRules, bytesTest, AcceptedBytes, accepted-bytes↔, accepted-sizes}
-use Rattle.editing.specs.Editing.{RoleIn, Draft, isSet, rootOf, Made}
+use Rattle.intake.specs.Intake.{rolesPart, conceptsPart, queryPart, described, mostRoles, mostRules, bytesTest, AcceptedBytes}
+use Rattle.intake.specs.Intake.{accepted-bytes↔, accepted-sizes}
+use Rattle.editing.specs.Editing.{RoleIn, loneRole, Draft, isSet, rootOf, Made}
 use Rattle.editing.specs.Kept.{Few}
 use Rattle.editing.specs.Reach.{made↔}
 use Rattle.edit_bytes.specs.Out.{roleBytes, entryBytes, rolesOut, conceptsOut, queryOut, pair, withPairs, outBytes, whole}
-use Rattle.edit_bytes.specs.OutLaws.{out-tests, out-accepted, roles-part, concepts-part, query-part, roles-long, concepts-long, byte-of, mask-of, fields-of}
+use Rattle.edit_bytes.specs.OutLaws.{out-tests, out-accepted, roles-part, concepts-part, query-part, roles-long, concepts-long}
+use Rattle.edit_bytes.specs.OutLaws.{byte-of, mask-of, fields-of}
 use Rattle.edit_bytes.specs.OutSmall.{out-small}
 
 abbrev roleOf : List ℕ → ℕ → RoleIn
@@ -56,7 +59,8 @@ again k write read dflt s n pos long w h = stands-whole (flatten ws)
 
     at : (i : ℕ) → i < n → getD ws i [] ≡ write (read s i)
     at i m = at-map write (tabulate n (read s)) dflt [] i
-        (let z : i < length (tabulate n (read s)) = omega (arith, length-tabulate n (read s)) in z) ∙ ap write (at-tabulate n (read s) dflt i m)
+        (let z : i < length (tabulate n (read s)) = omega (arith, length-tabulate n (read s)) in z) ∙ ap write (at-tabulate n
+        (read s) dflt i m)
 
     even : (i : ℕ) → i ≤ length ws → before ws i ≡ k * i
     even = before-even k ws [] (λ j g. ap length (at j (let z : j < n = omega (arith, many) in z)) ∙ w (read s j))
@@ -88,7 +92,7 @@ module _ (d : List ℕ) (A : AcceptedBytes d) (small : Small d) where
 
   roles-again : rolesOut T ≡ rs
   unfolding rolesOut
-  roles-again = again 3 roleBytes roleOf (record { transitive = 0; parents = 0 }) rs (length rs / 3) (omega arith) (omega (arith, A .roles))
+  roles-again = again 3 roleBytes roleOf (loneRole 0) rs (length rs / 3) (omega arith) (omega (arith, A .roles))
       (λ x. refl) (λ i h. stands-more (byteAt rs (3 * i)) (two (num2 rs (3 * i + 1))) refl
       (two-bytes .again (part-small 0 (omega arith)) (omega (arith, A .roles))))
 
@@ -201,23 +205,39 @@ pub read-back : (T : Draft) → isSet (T .root) ≡ true → draftIn (outBytes T
 read-back T rooted = rw (roles-part T, concepts-part T, query-part T) (draft-of roles entries (root (T .root) rooted) rules)
   where
     no-role : RoleIn
-    no-role = record { transitive = 0; parents = 0 }
+    no-role = loneRole 0
 
-    some-role : {t t′ m m′ : ℕ} → t ≡ t′ → m ≡ m′ → _≡_ {A = RoleIn} (record { transitive = t; parents = m }) (record { transitive = t′; parents = m′ })
+    some-role : {t t′ m m′ : ℕ} → t ≡ t′ → m ≡ m′ → _≡_ {A = RoleIn} (record { transitive = t; parents = m })
+        (record { transitive = t′; parents = m′ })
     some-role p q = rw (p, q) refl
 
     roles : tabulate (length (rolesOut T) / 3) (roleOf (rolesOut T)) ≡ T .roles
-    roles = let n : length (rolesOut T) / 3 ≡ length (T .roles) = omega (arith, roles-long T) in rw n (ext-getD no-role _ _ (length-tabulate (length (T .roles)) (roleOf (rolesOut T)))
-        (λ i h. at-tabulate (length (T .roles)) (roleOf (rolesOut T)) no-role i (omega (arith, length-tabulate (length (T .roles)) (roleOf (rolesOut T)))) ∙ some-role (byte-of T i) (mask-of T i)))
+    roles = let n : length (rolesOut T) / 3 ≡ length (T .roles) = omega (arith, roles-long T) in rw n (ext-getD no-role _ _
+        (length-tabulate (length (T .roles)) (roleOf (rolesOut T)))
+        (λ i h. at-tabulate (length (T .roles)) (roleOf (rolesOut T)) no-role i (omega (
+          arith,
+          length-tabulate (length (T .roles))
+              (roleOf (rolesOut T)),
+        )) ∙ some-role (byte-of T i) (mask-of T i)))
 
     entries : tabulate (length (conceptsOut T) / 6) (fieldsAt (conceptsOut T)) ≡ T .entries
-    entries = let n : length (conceptsOut T) / 6 ≡ length (T .entries) = omega (arith, concepts-long T) in rw n (ext-getD (fieldsOf top) _ _ (length-tabulate (length (T .entries)) (fieldsAt (conceptsOut T)))
-        (λ i h. at-tabulate (length (T .entries)) (fieldsAt (conceptsOut T)) (fieldsOf top) i (omega (arith, length-tabulate (length (T .entries)) (fieldsAt (conceptsOut T)))) ∙ fields-of T i))
+    entries = let n : length (conceptsOut T) / 6 ≡ length (T .entries) = omega (arith, concepts-long T) in rw n (ext-getD
+        (fieldsOf top) _ _ (length-tabulate (length (T .entries)) (fieldsAt (conceptsOut T)))
+        (λ i h. at-tabulate (length (T .entries)) (fieldsAt (conceptsOut T)) (fieldsOf top) i (omega (
+          arith,
+          length-tabulate (length
+              (T .entries)) (fieldsAt (conceptsOut T)),
+        )) ∙ fields-of T i))
 
     root : (o : Option ℕ) → isSet o ≡ true → some (rootOf o) ≡ o
     root (some l) e = refl
     root none e = absurd (false≢true e)
 
     rules : tabulate (length (queryOut T) - 1) (λ i. byteAt (queryOut T) (i + 1)) ≡ T .rules
-    rules = let n : length (queryOut T) - 1 ≡ length (T .rules) = omega arith in rw n (ext-getD 0 _ _ (length-tabulate (length (T .rules)) (λ i. byteAt (queryOut T) (i + 1)))
-        (λ i h. at-tabulate (length (T .rules)) (λ i. byteAt (queryOut T) (i + 1)) 0 i (omega (arith, length-tabulate (length (T .rules)) (λ i. byteAt (queryOut T) (i + 1)))) ∙ rw (add-one i) refl))
+    rules = let n : length (queryOut T) - 1 ≡ length (T .rules) = omega arith in rw n (ext-getD 0 _ _ (length-tabulate (length
+        (T .rules)) (λ i. byteAt (queryOut T) (i + 1)))
+        (λ i h. at-tabulate (length (T .rules)) (λ i. byteAt (queryOut T) (i + 1)) 0 i (omega (
+          arith,
+          length-tabulate (length
+              (T .rules)) (λ i. byteAt (queryOut T) (i + 1)),
+        )) ∙ rw (add-one i) refl))

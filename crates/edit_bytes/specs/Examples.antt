@@ -5,7 +5,7 @@ use mathlib.Core.List.{List, [], _∷_, _++_, map, flatten}
 use mathlib.Core.Option.{Option, none, some}
 use Rattle.description.specs.Descriptions.{Fields}
 use Rattle.answers.specs.Answers.{WRITTEN, REFUSED, Answer}
-use Rattle.editing.specs.Editing.{RoleIn, Draft}
+use Rattle.editing.specs.Editing.{RoleIn, loneRole, Draft}
 use Rattle.edit_bytes.specs.Out.{rolesOut, conceptsOut, outBytes, outRefused, outAnswer, outLength, outBuffer}
 
 -- a draft, and a buffer of that many bytes, each 7
@@ -44,7 +44,7 @@ abbrev top : Fields
 top = record { kind = 0; role = 0; first = 0; second = 0; number = 0 }
 
 abbrev transitive : RoleIn
-transitive = record { transitive = 1; parents = 0 }
+transitive = loneRole 1
 
 abbrev draft : List RoleIn → List Fields → Option ℕ → Draft
 draft roles entries root = record { roles = roles; entries = entries; root = root; rules = [] }
@@ -58,7 +58,7 @@ smallestBytes = 0 ∷ 12 ∷ 0 ∷ 3 ∷ 0 ∷ 15 ∷ 0 ∷ 6 ∷ 0 ∷ 21 ∷ 0
 -- in the order of adding: role 0 in role 1, "at least 258" of role 1, the root 2, the rules 3 and 0
 abbrev ordered : Draft
 ordered = record {
-  roles = record { transitive = 0; parents = 2 } ∷ record { transitive = 0; parents = 0 } ∷ [];
+  roles = record { transitive = 0; parents = 2 } ∷ loneRole 0 ∷ [];
   entries = top ∷ record { kind = 4; role = 1; first = 1; second = 0; number = 258 } ∷ [];
   root = some 2;
   rules = 3 ∷ 0 ∷ [];

@@ -3,7 +3,7 @@ use Prim.Native.Nat.{ℕ, zero, suc, _+_, _-_, _*_, _≤_, _<_}
 use mathlib.Core.Path.{_≡_, refl, sym, _∙_, ap, ap₂, fun-ext}
 use mathlib.Core.Logic.{_↔_}
 use mathlib.Core.Bool.{Bool, _&&_}
-use mathlib.Core.List.{List, [], _∷_, _++_, map, flatten, append-nil}
+use mathlib.Core.List.{List, [], _∷_, _++_, map, flatten}
 use mathlib.Core.Option.{none}
 use native.Mathlib.Omega.{arith}
 use native.Mathlib.Decide.{decLt}
@@ -22,12 +22,15 @@ use Rattle.description.specs.Descriptions.{Description, Entry, Fields, fieldsOf
 use Rattle.description.specs.Acceptance.{descriptionTests, literalTest}
 use Rattle.tables.specs.Tables.{fieldsAt, describe}
 use Rattle.labels.specs.Labels.{mostEntries}
-use Rattle.intake.specs.Intake.{rolesPart, conceptsPart, queryPart, described, mostRoles, mostRules, sizesTest, recordsTest, partsTest, bytesTest}
+use Rattle.intake.specs.Intake.{rolesPart, conceptsPart, queryPart, described, mostRoles, mostRules, sizesTest, recordsTest, partsTest}
+use Rattle.intake.specs.Intake.{bytesTest}
 use Rattle.intake.specs.Intake as Bytes
 use Rattle.answers.specs.Answers.{wholly, answer, WRITTEN, told↔}
-use Rattle.editing.specs.Editing.{tests, RoleIn, Draft, roleIn, fieldsIn, isSet, rootOf, describes, roleForm, entryForm, broken, Made}
+use Rattle.editing.specs.Editing.{tests, RoleIn, loneRole, Draft, roleIn, fieldsIn, isSet, rootOf, describes, roleForm, entryForm, broken}
+use Rattle.editing.specs.Editing.{Made}
 use Rattle.editing.specs.Kept.{broken-is, made-kept, Few, made-few}
-use Rattle.edit_bytes.specs.Out.{roleBytes, entryBytes, rolesOut, conceptsOut, queryOut, pair, withPairs, outBytes, whole, outRefused, outAnswer}
+use Rattle.edit_bytes.specs.Out.{roleBytes, entryBytes, rolesOut, conceptsOut, queryOut, pair, withPairs, outBytes, whole}
+use Rattle.edit_bytes.specs.Out.{outRefused, outAnswer}
 
 -- ---- records of k bytes, one after another
 module _ {A : Type 0} (k : ℕ) (write : A → List ℕ) (long : (x : A) → length (write x) ≡ k) (dflt : A) (xs : List A) where
@@ -59,17 +62,7 @@ module _ (T : Draft) where
   out = outBytes T
 
   abbrev none-role : RoleIn
-  none-role = record { transitive = 0; parents = 0 }
-
-  -- ---- the pieces, as they are laid one behind the other
-  abbrev pub outPieces : List (List ℕ)
-  outPieces = two 12 ∷ two (length rs) ∷ two (12 + length rs) ∷ two (length cs) ∷ two (12 + length rs + length cs) ∷ two (length qs)
-      ∷ rs ∷ cs ∷ qs ∷ []
-
-  pub out-pieces : flatten outPieces ≡ out
-  unfolding outBytes flatten
-  out-pieces = ap (λ q. pair 12 rs ++ (pair (12 + length rs) cs ++ (pair (12 + length rs + length cs) qs ++ (rs ++ (cs ++ q)))))
-      (append-nil qs)
+  none-role = loneRole 0
 
   -- ---- how long they are
   pub roles-long : length rs ≡ 3 * length (T .roles)
@@ -83,9 +76,6 @@ module _ (T : Draft) where
   whole-length : length out ≡ 12 + length rs + length cs + length qs
   unfolding outBytes
   whole-length = omega (arith, length-append rs (cs ++ qs), length-append cs qs)
-
-  pub out-length : length (outBytes T) ≡ 13 + 3 * length (T .roles) + 6 * length (T .entries) + length (T .rules)
-  out-length = omega (arith, whole-length, roles-long, concepts-long)
 
   -- ---- where things stand
   all-there : Stands out 0 (withPairs rs cs qs)

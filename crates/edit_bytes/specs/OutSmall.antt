@@ -17,7 +17,7 @@ use Rattle.description.specs.Descriptions.{Description, Entry, top, name, both,
 use Rattle.description.specs.Acceptance.{EntryOk, entry↔, literalTest}
 use Rattle.labels.specs.Labels.{mostEntries}
 use Rattle.intake.specs.Intake.{mostRoles}
-use Rattle.editing.specs.Editing.{Draft, roleIn, fieldsIn, isSet, rootOf, describes, roleForm, entryForm, Made}
+use Rattle.editing.specs.Editing.{loneRole, Draft, roleIn, fieldsIn, isSet, rootOf, describes, roleForm, entryForm, Made}
 use Rattle.editing.specs.Kept.{Passes, passed, Few, made-few, role-fine, parents-in, rules-kept}
 use Rattle.edit_bytes.specs.Out.{roleBytes, entryBytes, rolesOut, conceptsOut, queryOut, pair, outBytes}
 use Rattle.edit_bytes.specs.OutLaws.{roles-long, concepts-long}
@@ -30,7 +30,8 @@ small-code : (l : Literal) (e : ℕ) → entryOf l < e → e ≤ mostEntries →
 small-code l e h k = let z = code-entry l e .1 h in omega arith
 
 -- an entry that keeps 4
-small-entry : (D : Description) (e : ℕ) (x : Entry) → D .roles ≤ mostRoles → e ≤ mostEntries → EntryOk D e x → Small (entryBytes (fieldsOf x))
+small-entry : (D : Description) (e : ℕ) (x : Entry) → D .roles ≤ mostRoles → e ≤ mostEntries → EntryOk D e x → Small (entryBytes
+    (fieldsOf x))
 small-entry D e x few h k = go x k
   where
     five : (a b c d n : ℕ) → Byte a → Byte b → Byte c → Byte d → n < 65536
@@ -58,7 +59,7 @@ module _ (T : Draft) (m : Made T) where
   roles-small : Small (rolesOut T)
   unfolding rolesOut
   roles-small = small-flatten _ (each-map Small roleBytes (T .roles)
-      (λ R k. let i = member-at (T .roles) (record { transitive = 0; parents = 0 }) R k in
+      (λ R k. let i = member-at (T .roles) (loneRole 0) R k in
       subst (λ R. Small (roleBytes R)) (i .2) (role-small (i .0) (i .1))))
     where
       role-small : (r : ℕ) → r < D .roles → Small (roleBytes (roleIn T r))

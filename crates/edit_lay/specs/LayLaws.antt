@@ -4,13 +4,14 @@ use mathlib.Core.Path.{_≡_, refl, sym, _∙_, ap, subst}
 use mathlib.Core.List.{List, [], _∷_, _++_, flatten, append-nil}
 use native.Mathlib.Omega.{arith}
 use lib.Bits.{bitOr}
-use lib.ListN.{length, drop, length-append}
+use lib.ListN.{length, length-append}
 use Rattle.logic.specs.Sets.{with}
 use Rattle.logic.specs.SetLaws.{single-word}
 use Rattle.laying.specs.Numbers.{two}
 use Rattle.laying.specs.Laying.{laid, laidIn, laidFrom, laid-fits, laid-pieces, laid-output}
+use Rattle.answers.specs.Answers.{over}
 use Rattle.edit_bytes.specs.Out.{withPairs}
-use Rattle.edit_lay.specs.Lays.{pairPieces, pairsOf, sizeWith, writtenOver}
+use Rattle.edit_lay.specs.Lays.{pairPieces, pairsOf, sizeWith}
 
 -- the mask with one bit, as the code sets it
 pub parent-mask : (x p : ℕ) → bitOr x (1 * 2 ^ (p % 16) % 65536) ≡ with x (p % 16)
@@ -37,12 +38,12 @@ with-pairs-long rs cs qs = omega (arith, length-append rs (cs ++ qs), length-app
 
 pub description-laid : (old rs cs qs : List ℕ) → sizeWith rs cs qs ≤ length old
     → laidFrom 12 (rs ∷ cs ∷ qs ∷ []) (laid old 0 (pairsOf (length rs) (length cs) (length qs)))
-    ≡ writtenOver old rs cs qs
+    ≡ over (withPairs rs cs qs) old
 unfolding laidFrom pairsOf flatten
 description-laid old rs cs qs h =
     ap (laidFrom 12 (rs ∷ cs ∷ qs ∷ [])) (sym (laid-fits old 0 (pairsOf (length rs) (length cs) (length qs)) (omega arith)))
     ∙ laid-output pieces old (subst (λ w. length w ≤ length old) (sym out-is) (omega (arith, with-pairs-long rs cs qs)))
-    ∙ ap (λ w. w ++ drop (length w) old) out-is ∙ ap (λ n. withPairs rs cs qs ++ drop n old) (with-pairs-long rs cs qs)
+    ∙ ap (λ w. over w old) out-is
   where
     pieces : List (List ℕ)
     pieces = pairsOf (length rs) (length cs) (length qs) ∷ rs ∷ cs ∷ qs ∷ []

@@ -1,13 +1,12 @@
 -- What the editor's code lays into bytes.
 use Prim.Native.Nat.{ℕ, _+_, _/_, _%_}
-use mathlib.Core.List.{List, [], _∷_, _++_, flatten}
-use lib.ListN.{length, drop}
+use mathlib.Core.List.{List, [], _∷_, flatten}
+use lib.ListN.{length}
 use Rattle.logic.specs.Sets.{with}
 use Rattle.parts.specs.Numbers.{byteAt, num2}
 use Rattle.laying.specs.Numbers.{two}
 use Rattle.laying.specs.Laying.{laidIn}
 use Rattle.tables.specs.declared.Fields.{Fields}
-use Rattle.edit_bytes.specs.Out.{withPairs}
 
 -- bytes with the bit of p in the parents of the role at a place
 abbrev pub withParent : List ℕ → ℕ → ℕ → List ℕ
@@ -24,9 +23,6 @@ pairPieces a b c = two 12 ∷ two a ∷ two (12 + a) ∷ two b ∷ two (12 + a +
 unfoldable pub pairsOf : ℕ → ℕ → ℕ → List ℕ
 pairsOf a b c = flatten (pairPieces a b c)
 
--- how long the description of three parts is, and that description with the old bytes behind it
+-- how long the description of three parts is
 abbrev pub sizeWith : List ℕ → List ℕ → List ℕ → ℕ
 sizeWith rs cs qs = 12 + length rs + length cs + length qs
-
-abbrev pub writtenOver : List ℕ → List ℕ → List ℕ → List ℕ → List ℕ
-writtenOver old rs cs qs = withPairs rs cs qs ++ drop (sizeWith rs cs qs) old

@@ -10,7 +10,7 @@ use lib.Seq.{drop-set-lt}
 use Rattle.logic.specs.Lists.{length-snoc}
 use Rattle.laying.specs.Numbers.{two}
 use Rattle.laying.specs.Laying.{laid}
-use Rattle.editing.specs.Editing.{RoleIn, Draft, isSet, newRole, putIn, refusal}
+use Rattle.editing.specs.Editing.{RoleIn, loneRole, Draft, isSet, newRole, putIn, refusal}
 use Rattle.editing.specs.Answers.{role-answers}
 use Rattle.edit_bytes.specs.Out.{roleBytes, rolesOut, conceptsOut, queryOut}
 use Rattle.edit_bytes.specs.OutLaws.{roles-long}
@@ -29,7 +29,7 @@ new-role : (T : Draft) (b : ℕ) → length (T .roles) < 16
     → laid (filled rolesRoom (rolesOut T)) (3 * length (T .roles)) (b ∷ two 0) ≡ filled rolesRoom (rolesOut (putIn T (newRole b)))
 unfolding rolesOut
 new-role T b k = filled-on rolesRoom (rolesOut T) (b ∷ two 0) (3 * length (T .roles)) (sym (roles-long T)) (omega (arith, roles-long T))
-    ∙ ap (filled rolesRoom) (sym (bytes-snoc 3 roleBytes (λ R. refl) (T .roles) (record { transitive = b; parents = 0 })))
+    ∙ ap (filled rolesRoom) (sym (bytes-snoc 3 roleBytes (λ R. refl) (T .roles) (loneRole b)))
 
 module _ (old : List ℕ) (b n : ℕ) (e : n ≡ rolesIn old) (T : Draft) (rest : List ℕ) (l : Lends old T rest) where
   counted : n ≡ length (T .roles)
@@ -56,4 +56,4 @@ module _ (old : List ℕ) (b n : ℕ) (e : n ≡ rolesIn old) (T : Draft) (rest 
   )
     where
       new : RoleIn
-      new = record { transitive = b; parents = 0 }
+      new = loneRole b

@@ -1,21 +1,21 @@
 -- Writing out: what the code lays into the buffer, for every state; and of a state that holds a draft, that it is what was put in.
 use Prim.Native.Nat.{ℕ, _+_, _-_, _*_, _≤_, _<_}
-use mathlib.Core.Path.{_≡_, refl, sym, _∙_, ap, ap₂}
+use mathlib.Core.Path.{_≡_, refl, sym, _∙_, ap}
 use mathlib.Core.Bool.{Bool, true, false, _&&_}
 use mathlib.Core.Logic.{inl, inr}
-use mathlib.Core.List.{List, _++_}
+use mathlib.Core.List.{List}
 use mathlib.Core.Option.{none, some}
 use native.Mathlib.Omega.{arith}
 use borrow.Author.Tests.{lt-leb, le-leb}
 use lib.Dec.{eqb, leb}
 use lib.ListN.{length, take, drop, length-take, length-drop}
 use lib.Seq.{drop-append-add, drop-drop, length-take-le}
-use Rattle.parts.specs.Numbers.{byteAt, upTo}
+use Rattle.parts.specs.Numbers.{byteAt}
 use Rattle.answers.specs.declared.Output.the-variants.{Bytes, Refused}
-use Rattle.answers.specs.Answers.{wholly, answer, WRITTEN, ofOutput, sizeOf, unlessRefused, buffered}
+use Rattle.answers.specs.Answers.{wholly, answer, WRITTEN, ofOutput, sizeOf, unlessRefused, over, buffered}
 use Rattle.editing.specs.Editing.{Draft}
 use Rattle.edit_bytes.specs.Out.{withPairs, outBytes, whole, outRefused}
-use Rattle.edit_lay.specs.Lays.{sizeWith, writtenOver}
+use Rattle.edit_lay.specs.Lays.{sizeWith}
 use Rattle.edit_lay.specs.LayLaws.{with-pairs-long}
 use Rattle.edit_state.specs.Lent.{rolesFrom, conceptsFrom, queryFrom, stateBytes, outMost, Lends, rolesIn, entriesIn, rulesIn}
 use Rattle.edit_state.specs.Lent.{sizeIn, Writes}
@@ -77,16 +77,16 @@ refused-writes state old n u h f = record {
 }
 
 -- bytes past what is written stay
-past-stays : (rs cs qs old : List ℕ) (m : ℕ) → sizeWith rs cs qs ≤ m → drop m (writtenOver old rs cs qs) ≡ drop m old
-past-stays rs cs qs old m h = ap (λ n. drop n (writtenOver old rs cs qs)) (let z : m ≡ length text + (m - k) = omega (arith, long) in z)
+past-stays : (rs cs qs old : List ℕ) (m : ℕ) → sizeWith rs cs qs ≤ m → drop m (over (withPairs rs cs qs) old) ≡ drop m old
+past-stays rs cs qs old m h = ap (λ n. drop n (over text old)) (let z : m ≡ k + (m - k) = omega (arith, long) in z)
     ∙ drop-append-add text (drop k old) (m - k) ∙ drop-drop (m - k) k old
-    ∙ ap (λ n. drop n old) (let z : k + (m - k) ≡ m = omega arith in z)
+    ∙ ap (λ n. drop n old) (let z : k + (m - k) ≡ m = omega (arith, long) in z)
   where
-    k : ℕ
-    k = sizeWith rs cs qs
-
     text : List ℕ
     text = withPairs rs cs qs
+
+    k : ℕ
+    k = length text
 
     long : length text ≡ sizeWith rs cs qs
     long = with-pairs-long rs cs qs
@@ -94,8 +94,8 @@ past-stays rs cs qs old m h = ap (λ n. drop n (writtenOver old rs cs qs)) (let 
 pub done-writes : (state old rs cs qs : List ℕ) → stateBytes ≤ length state
     → (sizeWith rs cs qs ≡ sizeIn state) × (sizeIn state ≤ outMost)
     → ((T : Draft) (rest : List ℕ) → Lends state T rest → (outRefused T (length old) ≡ none) × (sizeWith rs cs qs ≡ length (outBytes T))
-    × (writtenOver old rs cs qs ≡ outBytes T ++ drop (length (outBytes T)) old))
-    → Writes state old (Bytes (sizeWith rs cs qs)) (writtenOver old rs cs qs)
+    × (over (withPairs rs cs qs) old ≡ over (outBytes T) old))
+    → Writes state old (Bytes (sizeWith rs cs qs)) (over (withPairs rs cs qs) old)
 done-writes state old rs cs qs h k f = record {
   made = λ T rest l. let q = f T rest l in (
     sym (ap (λ o. answer WRITTEN (wholly o)) (q .0)),
@@ -152,10 +152,10 @@ module _ (state : List ℕ) (n e : ℕ) (en : n ≡ rolesIn state) (ee : e ≡ e
     out-short a b = rw (is-whole ∙ a, lt-leb (length (outBytes T)) (length old) (omega (arith, out-size))) refl
 
     pub out-done : held ≡ true → sizeWith rs cs qs ≤ length old → (outRefused T (length old) ≡ none)
-        × (sizeWith rs cs qs ≡ length (outBytes T)) × (writtenOver old rs cs qs ≡ outBytes T ++ drop (length (outBytes T)) old)
+        × (sizeWith rs cs qs ≡ length (outBytes T)) × (over (withPairs rs cs qs) old ≡ over (outBytes T) old)
     unfolding outRefused
     out-done a b = (
       rw (is-whole ∙ a, le-leb (length (outBytes T)) (length old) (omega (arith, out-size))) refl,
       out-size,
-      ap₂ (λ w n. w ++ drop n old) out-is out-size,
+      ap (λ w. over w old) out-is,
     )

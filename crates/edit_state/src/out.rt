@@ -5,7 +5,9 @@ ghost use mathlib.Core.List.{[], _∷_};
 ghost use lib.ListN.{length};
 ghost use denote.Ref.{now};
 ghost use Rattle.laying.specs.Laying.{laid, laidFrom};
-ghost use Rattle.edit_lay.specs.Lays.{pairsOf, sizeWith, writtenOver};
+ghost use Rattle.edit_lay.specs.Lays.{pairsOf, sizeWith};
+ghost use Rattle.answers.specs.Answers.{over};
+ghost use Rattle.edit_bytes.specs.Out.{withPairs};
 use laying::copy_bytes;
 use laying::put2;
 
@@ -35,7 +37,7 @@ fn lay_parts(buf: &mut [u8], rs: &[u8], cs: &[u8], qs: &[u8])
 // The description of these parts: three pairs, and the parts.
 pub(crate) fn lay_description(buf: &mut [u8], rs: &[u8], cs: &[u8], qs: &[u8])
     requires { ⌜ (sizeWith (now rs) (now cs) (now qs) ≤ length (now buf)) × (sizeWith (now rs) (now cs) (now qs) < 65536) ⌝ }
-    ensures { λ _. ⌜ now (buf .exit) ≡ writtenOver (now (buf .entry)) (now (rs .entry)) (now (cs .entry)) (now (qs .entry)) ⌝ }
+    ensures { λ _. ⌜ now (buf .exit) ≡ over (withPairs (now (rs .entry)) (now (cs .entry)) (now (qs .entry))) (now (buf .entry)) ⌝ }
 {
     lay_pairs(buf, rs.len() as u16, cs.len() as u16, qs.len() as u16);
     lay_parts(buf, rs, cs, qs);

@@ -22,6 +22,10 @@ pub record RoleIn : Type 0 where
   pub transitive : ℕ
   pub parents : ℕ
 
+-- a role without parents
+abbrev pub loneRole : ℕ → RoleIn
+loneRole t = record { transitive = t; parents = 0 }
+
 -- what has been put in, in that order
 pub record Draft : Type 0 where
   pub roles : List RoleIn
@@ -35,7 +39,7 @@ nothing = record { roles = []; entries = []; root = none; rules = [] }
 
 -- role r, and the fields of entry e
 abbrev pub roleIn : Draft → ℕ → RoleIn
-roleIn T r = getD (T .roles) r (record { transitive = 0; parents = 0 })
+roleIn T r = getD (T .roles) r (loneRole 0)
 
 abbrev pub fieldsIn : Draft → ℕ → Fields
 fieldsIn T e = getD (T .entries) e (fieldsOf top)
@@ -95,7 +99,7 @@ pub data Edit : Type 0 where
 -- the draft with it put in: a role comes without parents, an inclusion adds bit p to the parents of r (p may be r), the last root counts
 abbrev pub putIn : Draft → Edit → Draft
 putIn T (newRole t) = record {
-  roles = T .roles ++ (record { transitive = t; parents = 0 } ∷ []);
+  roles = T .roles ++ (loneRole t ∷ []);
   entries = T .entries;
   root = T .root;
   rules = T .rules;

@@ -10,7 +10,8 @@ use Rattle.description.specs.Literals.{literal}
 use Rattle.description.specs.Descriptions.{Fields, entryFrom, sameEntry, ifEvery, ifLeast}
 use Rattle.description.specs.Roles.{ancestor, simple}
 use Rattle.description.specs.Acceptance.{entryTest}
-use Rattle.editing.specs.Editing.{RoleIn, Draft, broken, Edit, newRole, inclusion, concept, newRoot, newRule, nothing, refusal, edited}
+use Rattle.editing.specs.Editing.{RoleIn, Draft, broken, Edit, newRole, inclusion, concept, newRoot, newRule, nothing, refusal}
+use Rattle.editing.specs.Editing.{edited}
 
 -- ---- trials
 -- an operation and its answer
@@ -145,7 +146,8 @@ trials-hold = refl
 -- the rules in order, one of them before the root
 drafts : map (after nothing) (
     (done (newRole 0) ∷ done (inclusion 0 0) ∷ [])
-    ∷ (done (newRole 1) ∷ done (newRole 0) ∷ done (inclusion 1 0) ∷ done (inclusion 1 0) ∷ done (inclusion 1 1) ∷ refused (inclusion 1 2) 3 ∷ [])
+    ∷ (done (newRole 1) ∷ done (newRole 0) ∷ done (inclusion 1 0) ∷ done (inclusion 1 0) ∷ done (inclusion 1 1) ∷ refused
+    (inclusion 1 2) 3 ∷ [])
     ∷ (done top ∷ refused top 4 ∷ done (newRule 1) ∷ done (newRoot 0) ∷ done (newRoot 1) ∷ refused (newRoot 2) 8 ∷ done (newRule 0) ∷ [])
     ∷ []
     ) ≡ (

@@ -2,16 +2,15 @@
 use Prim.Native.Nat.{ℕ, _≤_, _<_}
 use mathlib.Core.Path.{_≡_, refl, sym, _∙_, subst}
 use mathlib.Core.Logic.{_↔_, _⊎_, inl, inr}
-use mathlib.Core.Bool.{Bool, true, false, cond, not, _&&_, _||_, false≢true}
+use mathlib.Core.Bool.{Bool, true, false, cond, _&&_, _||_, false≢true}
 use native.Mathlib.Omega.{arith}
 use lib.Bits.{bitOr}
 use lib.Dec.{eqb}
-use Rattle.logic.specs.Tests.{So, so-and, and-l, and-r, or-l, or-r, or-cases, so-eqb, eqb↔, same-test, so-not, not-so}
-use Rattle.logic.specs.Bounded.{all-intro, all-elim}
+use Rattle.logic.specs.Tests.{So, so-and, and-l, and-r, or-l, or-r, or-cases, so-eqb, eqb↔, same-test}
 use Rattle.logic.specs.Sets.{has, with, setOf}
 use Rattle.logic.specs.SetLaws.{with↔, has-setOf, setOf-cong, or-setOf}
 use Rattle.description.specs.Descriptions.{Description, included}
-use Rattle.description.specs.Roles.{ancestor, simple, anc-refl, parent-anc, anc-ind, anc-trans}
+use Rattle.description.specs.Roles.{ancestor, anc-refl, parent-anc, anc-ind, anc-trans}
 use Rattle.roles.specs.Ancestors.{joined}
 
 -- every parent bit is of the table
@@ -96,10 +95,3 @@ module _ (D : Description) (inside : ParentsIn D) (r p : ℕ) (hr : r < D .roles
           last : (b : Bool) → (b || false) ≡ b
           last true = refl
           last false = refl
-
-  -- a role that is simple was simple before
-  pub simple-before : (s : ℕ) → So (simple E s) → So (simple D s)
-  unfolding simple
-  simple-before s u = all-intro (D .roles) _ (λ t ht. so-not _
-      (λ v. not-so _ (all-elim (D .roles) (λ t. not (D .transitive t && ancestor E t s)) u t ht)
-      (so-and (D .transitive t) _ (and-l (D .transitive t) _ v) (anc-still t s ht (and-r (D .transitive t) _ v)))))

@@ -10,7 +10,7 @@ use lib.ListN.{length, length-set}
 use Rattle.logic.specs.Tests.{So, _⇒_, and-r, so-ltb}
 use Rattle.logic.specs.Bounded.{allBelow, all-intro, all-elim, all-cong}
 use Rattle.logic.specs.Lists.{length-snoc}
-use Rattle.logic.specs.Refusals.{unless, unless↔}
+use Rattle.logic.specs.Refusals.{unless↔}
 use Rattle.logic.specs.Sets.{narrow}
 use Rattle.logic.specs.SetLaws.{narrow↔}
 use Rattle.description.specs.Descriptions.{Description, Entry, top, name, both, every, atLeast}
@@ -19,7 +19,8 @@ use Rattle.labels.specs.Labels.{mostEntries}
 use Rattle.intake.specs.Intake.{mostRoles, mostRules}
 use Rattle.answers.specs.Answers.{wholly, unlessRefused}
 use Rattle.editing.specs.Inclusions.{ParentsIn}
-use Rattle.editing.specs.Editing.{Draft, isSet, describes, roleForm, entryForm, queryKept, tests, broken, Edit, newRole, inclusion, concept, newRoot, newRule, putIn, hasRoom, inTable, refusal, Made, start, next}
+use Rattle.editing.specs.Editing.{loneRole, Draft, isSet, describes, roleForm, entryForm, queryKept, tests, broken, Edit, newRole}
+use Rattle.editing.specs.Editing.{inclusion, concept, newRoot, newRule, putIn, hasRoom, inTable, refusal, Made, start, next}
 
 pub broken-is : (T : Draft) → broken T ≡ tests (roleForm T) (entryForm T) (queryKept T) (describes T)
 unfolding broken
@@ -82,7 +83,7 @@ made-few = made-ind Few (omega arith, omega arith, omega arith) (λ T e f q. sti
   where
     still : (T : Draft) (e : Edit) → Few T → So (hasRoom T e) → Few (putIn T e)
     still T (newRole t) f h = (
-      let l = so-ltb (length (T .roles)) mostRoles h in omega (arith, length-snoc (T .roles) (record { transitive = t; parents = 0 })),
+      let l = so-ltb (length (T .roles)) mostRoles h in omega (arith, length-snoc (T .roles) (loneRole t)),
       f .1,
       f .2,
     )

@@ -13,9 +13,11 @@ use Rattle.logic.specs.Bounded.{all-intro, all-elim, all-cong, any-intro, any-e
 use Rattle.logic.specs.Lists.{length-snoc, at-snoc-old, at-snoc-new}
 use Rattle.logic.specs.Refusals.{unless}
 use Rattle.description.specs.Literals.{Literal, entryOf}
-use Rattle.description.specs.Descriptions.{Description, Entry, top, name, both, every, atLeast, Fields, fieldsOf, entryOfFields, sameFields, sameEntry, compound, ifLeast, ifEvery}
+use Rattle.description.specs.Descriptions.{Description, Entry, top, name, both, every, atLeast, Fields, fieldsOf, entryOfFields}
+use Rattle.description.specs.Descriptions.{sameFields, sameEntry, compound, ifLeast, ifEvery}
 use Rattle.description.specs.Roles.{ancestor, simple}
-use Rattle.description.specs.Acceptance.{entriesTest, entryTest, simplesTest, simpleTest, distinctsTest, distinctTest, everysTest, everyBelowTest}
+use Rattle.description.specs.Acceptance.{entriesTest, entryTest, simplesTest, simpleTest, distinctsTest, distinctTest, everysTest}
+use Rattle.description.specs.Acceptance.{everyBelowTest}
 use Rattle.editing.specs.Editing.{tests, Draft, isSet, describes, roleForm, entryForm, queryKept, broken, concept, putIn}
 use Rattle.editing.specs.Kept.{Passes, broken-is, all-last, entry-roles, rules-kept}
 

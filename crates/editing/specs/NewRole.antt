@@ -1,6 +1,6 @@
 -- A role put into a draft that breaks nothing is tested by 3 at its transitive byte, and by nothing else (02, job 4): it has
 -- no ancestor but itself, and is one of no other role.
-use Prim.Native.Nat.{ℕ, suc, _^_, _<_}
+use Prim.Native.Nat.{ℕ, suc, _<_}
 use mathlib.Core.Path.{_≡_, refl, sym, _∙_, ap, subst}
 use mathlib.Core.Logic.{inl, inr}
 use mathlib.Core.Bool.{Bool, true, false, not, _&&_}
@@ -9,18 +9,19 @@ use mathlib.Core.Option.{none}
 use native.Mathlib.Omega.{arith}
 use lib.Dec.{eqb, leb, ltb}
 use lib.ListN.{getD}
-use Rattle.logic.specs.Tests.{So, so-and, and-l, and-r, so-not, not-so, imp-in, imp-out, same-test, so-ltb, ltb-so}
+use Rattle.logic.specs.Tests.{So, so-and, and-l, and-r, so-not, not-so, imp-in, imp-out, so-ltb, ltb-so}
 use Rattle.logic.specs.Bounded.{all-intro, all-elim, below-cases}
 use Rattle.logic.specs.Lists.{length-snoc, at-snoc-old, at-snoc-new}
 use Rattle.logic.specs.Refusals.{unless}
-use Rattle.logic.specs.Sets.{has, narrow, setOf}
-use Rattle.logic.specs.SetLaws.{narrow↔, no-member, setOf-cong, setOf↔, set-ext, single↔}
+use Rattle.logic.specs.Sets.{has, narrow}
+use Rattle.logic.specs.SetLaws.{narrow↔, no-member}
 use Rattle.description.specs.Literals.{Literal, entryOf}
 use Rattle.description.specs.Descriptions.{Description, included, Entry, top, name, both, every, atLeast, ifEvery↔, ifLeast↔}
 use Rattle.description.specs.Roles.{ancestor, simple, anc-refl, parent-anc, anc-ind, anc-trans}
 use Rattle.description.specs.Acceptance.{rolesTest, entriesTest, entryTest, entry↔, simplesTest, everysTest}
 use Rattle.editing.specs.Inclusions.{ParentsIn}
-use Rattle.editing.specs.Editing.{tests, RoleIn, Draft, roleIn, describes, roleForm, entryForm, queryKept, broken, newRole, putIn}
+use Rattle.editing.specs.Editing.{tests, RoleIn, loneRole, Draft, roleIn, describes, roleForm, entryForm, queryKept, broken}
+use Rattle.editing.specs.Editing.{newRole, putIn}
 use Rattle.editing.specs.Kept.{Passes, broken-is, all-last, role-fine, parents-in}
 
 module _ (T : Draft) (P : Passes T) where
@@ -35,10 +36,10 @@ module _ (T : Draft) (P : Passes T) where
     m = D .roles
 
     abbrev absent : RoleIn
-    absent = record { transitive = 0; parents = 0 }
+    absent = loneRole 0
 
     abbrev fresh : RoleIn
-    fresh = record { transitive = b; parents = 0 }
+    fresh = loneRole b
 
     -- the description with one role more
     abbrev H : Description
@@ -159,43 +160,3 @@ module _ (T : Draft) (P : Passes T) where
     pub role-broken : broken R ≡ unless (leb b 1) 3 none
     role-broken = broken-is R ∙ ap (tests (roleForm R) (entryForm T) (queryKept T)) widens
         ∙ rw (roles-last, entries-fine, simples-fine, P .distincts, everys-fine, P .query) refl
-
-    -- what the records say with it
-    kept-anc : (x y : ℕ) → x < m → So (ancestor D x y) → So (ancestor H x y)
-    kept-anc x y h u = anc-ind D (parents-in T P) (λ z. So (ancestor H x z))
-        (λ a c ha v w. anc-trans H inside x a c (omega arith) w (parent-anc H a c (old-included a c ha ∙ v))) x y h u (anc-refl H x) .1
-
-    pub old-ancestors : (x : ℕ) → x < m → setOf 16 (ancestor (describes R) x) ≡ setOf 16 (ancestor D x)
-    old-ancestors x h = ap (λ Y. setOf 16 (ancestor Y x)) widens
-        ∙ setOf-cong 16 (ancestor H x) (ancestor D x) (λ y _. same-test _ _ (λ u. old-anc x y h u .0) (kept-anc x y h))
-
-    pub new-ancestors : m < 16 → setOf 16 (ancestor (describes R) m) ≡ 2 ^ m
-    new-ancestors k = ap (λ Y. setOf 16 (ancestor Y m)) widens
-        ∙ set-ext _ _ (λ i u. single↔ m i .1 (new-anc i (setOf↔ 16 (ancestor H m) i .0 u .1)))
-        (λ i u. let e = single↔ m i .0 u in setOf↔ 16 (ancestor H m) i .1
-        (omega arith, subst (λ j. So (ancestor H m j)) (sym e) (anc-refl H m)))
-
-    pub old-simple : (x : ℕ) → x < m → simple (describes R) x ≡ simple D x
-    unfolding simple
-    old-simple x h = ap (λ Y. simple Y x) widens ∙ same-test _ _ back (still-simple x h)
-      where
-        back : So (simple H x) → So (simple D x)
-        back u = all-intro m _ (λ t ht. so-not _ (λ v. not-so _
-            (all-elim (suc m) (λ t. not (H .transitive t && ancestor H t x)) u t (omega arith))
-            (so-and (H .transitive t) _ (ap (λ x. eqb (x .transitive) 1) (old-role t ht) ∙ and-l (D .transitive t) _ v)
-            (kept-anc t x ht (and-r (D .transitive t) _ v)))))
-
-    pub new-simple : simple (describes R) m ≡ not (eqb b 1)
-    unfolding simple
-    new-simple = ap (λ Y. simple Y m) widens ∙ same-test _ _ out back
-      where
-        out : So (simple H m) → So (not (eqb b 1))
-        out u = so-not _ (λ v. not-so _ (all-elim (suc m) (λ t. not (H .transitive t && ancestor H t m)) u m (omega arith))
-            (so-and (H .transitive m) _ (ap (λ x. eqb (x .transitive) 1) new-role ∙ v) (anc-refl H m)))
-
-        back : So (not (eqb b 1)) → So (simple H m)
-        back u = all-intro (suc m) _ (λ t ht. so-not _ (λ v. elim (below-cases t m ht) [
-          | inl k ↦ (let z = old-anc t m k (and-r (H .transitive t) _ v) .1 in omega arith)
-          | inr k ↦ not-so _ u (ap (λ x. eqb (x .transitive) 1) (sym new-role)
-              ∙ subst (λ t. So (H .transitive t)) k (and-l (H .transitive t) _ v))
-        ]))

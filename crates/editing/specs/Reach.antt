@@ -17,13 +17,15 @@ use Rattle.logic.specs.Lists.{tabulate, length-tabulate, at-tabulate, tabulate-
 use Rattle.logic.specs.Sets.{has, narrow, with, setOf}
 use Rattle.logic.specs.SetLaws.{narrow↔, with↔, setOf↔, set-ext, no-member}
 use Rattle.description.specs.Literals.{Literal, entryOf, literal}
-use Rattle.description.specs.Descriptions.{Description, included, Entry, top, every, fieldsOf, entryOfFields, sameEntry, sameEntry↔, ifEvery↔, ifLeast↔}
+use Rattle.description.specs.Descriptions.{Description, included, Entry, top, every, fieldsOf, entryOfFields, sameEntry, sameEntry↔}
+use Rattle.description.specs.Descriptions.{ifEvery↔, ifLeast↔}
 use Rattle.description.specs.Roles.{ancestor, simple, anc-refl, parent-anc, anc-ind, anc-trans}
 use Rattle.description.specs.Acceptance.{entryTest, simplesTest, simpleTest, distinctTest, everysTest, everyBelowTest, literalTest}
 use Rattle.labels.specs.Labels.{mostEntries}
 use Rattle.intake.specs.Intake.{mostRoles, mostRules}
 use Rattle.editing.specs.Inclusions.{ParentsIn, including, included↔, still-inside}
-use Rattle.editing.specs.Editing.{RoleIn, Draft, roleIn, fieldsIn, isSet, rootOf, describes, roleForm, entryForm, broken, newRole, inclusion, concept, newRoot, newRule, putIn, Made, start}
+use Rattle.editing.specs.Editing.{RoleIn, loneRole, Draft, roleIn, fieldsIn, isSet, rootOf, describes, roleForm, entryForm, broken}
+use Rattle.editing.specs.Editing.{newRole, inclusion, concept, newRoot, newRule, putIn, Made, start}
 use Rattle.editing.specs.Kept.{Passes, passes↔, passed, made-kept, Few, made-next, parents-in, entry-roles, rules-kept}
 use Rattle.editing.specs.Kept as Kept
 use Rattle.editing.specs.NewInclusion.{inclusion-broken}
@@ -49,11 +51,11 @@ module _ (T : Draft) (P : Passes T) (few : Few T) where
   entry-fine e h = all-elim (D .entries) _ (P .entries) e h
 
   abbrev none-role : RoleIn
-  none-role = record { transitive = 0; parents = 0 }
+  none-role = loneRole 0
 
   -- ---- the roles
   abbrev bare : ℕ → RoleIn
-  bare i = record { transitive = roleIn T i .transitive; parents = 0 }
+  bare i = loneRole (roleIn T i .transitive)
 
   abbrev withRoles : ℕ → Draft
   withRoles k = record { roles = tabulate k bare; entries = []; root = none; rules = [] }
@@ -162,7 +164,8 @@ module _ (T : Draft) (P : Passes T) (few : Few T) where
     anc-within : (r s : ℕ) → r < n → So (ancestor E r s) → So (ancestor D r s)
     anc-within r s h u = anc-ind E inside (λ z. So (ancestor D r z) × (z < n))
         (λ a b ha v w. let f = fewer a b (w .1) v in
-        (anc-trans D (parents-in T P) r a b h (w .0) (parent-anc D a b f), parents-in T P a (w .1) b f)) r s (rw roles h) u (anc-refl D r, h) .1 .0
+        (anc-trans D (parents-in T P) r a b h (w .0) (parent-anc D a b f), parents-in T P a (w .1) b f)) r s (rw roles h) u
+        (anc-refl D r, h) .1 .0
 
     -- so 5 and 7 hold, if the entries and the transitive roles are those of T
     module _ (bytes : (t : ℕ) → t < n → E .transitive t ≡ D .transitive t) (count : E .entries ≡ D .entries)

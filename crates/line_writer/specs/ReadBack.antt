@@ -1,7 +1,7 @@
 -- What the writer writes, the reader answers HOLDS to (01, "The written line").
 use Prim.Native.Nat.{ℕ, _<_}
 use mathlib.Core.Path.{_≡_, _∙_, ap}
-use mathlib.Core.List.{List, _++_, List·Memᴰ·cases-cons}
+use mathlib.Core.List.{List, List·Memᴰ·cases-cons}
 use mathlib.Core.Logic.{inl, inr}
 use mathlib.Core.Option.{none}
 use native.Mathlib.Omega.{arith}
@@ -17,7 +17,7 @@ use Rattle.lines.specs.LineLaws.{back, back-ok}
 use Rattle.intake.specs.Intake.{described, AcceptedBytes, accepted-sizes}
 use Rattle.evidence.specs.Evidence.{layoutOf, graphIn}
 use Rattle.line_reader.specs.Reading.{readAnswer, holds↔}
-use Rattle.answers.specs.Answers.{answer, WRITTEN, HOLDS, told↔, unlessRefused}
+use Rattle.answers.specs.Answers.{answer, WRITTEN, HOLDS, told↔, unlessRefused, buffered}
 use Rattle.line_writer.specs.Writing.{lineOf, lineSize, writeRefused, writeAnswer, writeLength, bufferAfter, written↔}
 
 -- the root is a literal of the table
@@ -54,4 +54,4 @@ read-back d s old e = ap (readAnswer d) front ∙ line-holds d s (length old) e
     n = lineSize d s
 
     front : take (writeLength d s (length old)) (bufferAfter d s old) ≡ line
-    front = ap (λ o. take (unlessRefused 0 n o) (unlessRefused old (line ++ drop n old) o)) none-refuses ∙ take-at line (drop n old) n (length-tabulate n (lineByte (described d) (lineOf d s)))
+    front = ap (λ o. take (unlessRefused 0 n o) (buffered line old o)) none-refuses ∙ take-at line (drop (length line) old) n (length-tabulate n (lineByte (described d) (lineOf d s)))

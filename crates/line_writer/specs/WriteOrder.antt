@@ -1,7 +1,6 @@
 -- The writer's answers in their order: 1 to 8, 9 to 15 of the graph, then 21, then 22, then the line.
 use Prim.Native.Nat.{ℕ, _*_, _%_, _≤_, _<_}
 use mathlib.Core.Path.{_≡_, refl, sym, _∙_, ap, subst}
-use mathlib.Core.Bool.{true, false}
 use mathlib.Core.List.{List, _++_}
 use mathlib.Core.Option.{Option, none, some}
 use native.Mathlib.Omega.{arith}
@@ -9,6 +8,7 @@ use native.Mathlib.Nat.{mul-le-mul, mul-le-mul-right, one-mul, mod-eq-of-lt}
 use borrow.Author.Tests.{le-leb, lt-leb}
 use lib.Dec.{leb}
 use lib.ListN.{length, drop}
+use Rattle.logic.specs.Lists.{length-tabulate}
 use Rattle.logic.specs.Tests.{so-leb, and-l}
 use Rattle.logic.specs.Refusals.{Refusal, unless, unless↔, refuse, refuse↔, refuse-some, firstOf}
 use Rattle.labels.specs.Labels.{nameBytes}
@@ -18,7 +18,7 @@ use Rattle.copies.specs.Copying.{copiesIn, copies-are}
 use Rattle.lines.specs.Lines.{nameSize, lineLength, mostElements, lineBytes}
 use Rattle.answers.specs.declared.Written.{Written}
 use Rattle.answers.specs.declared.Written.the-variants.{Line, Refused}
-use Rattle.answers.specs.Answers.{answer, WRITTEN, wholly, ofWritten, lengthOf, unlessRefused}
+use Rattle.answers.specs.Answers.{answer, WRITTEN, wholly, ofWritten, lengthOf, unlessRefused, buffered}
 use Rattle.description.specs.Descriptions.{Description, wanted}
 use Rattle.tables.specs.Tables.{describe}
 use Rattle.roles.specs.Ancestors.{roleCount}
@@ -32,7 +32,7 @@ use Rattle.graph.specs.Line.{copies, line}
 use Rattle.graph_check.specs.GraphEvidence.{graphHead, graphTests, graphRefused, GraphKept, kept↔}
 use Rattle.graph_check.specs.GraphSteps.{layoutIn, graphCode}
 use Rattle.graph_check.specs.GraphJoin.{sample-is}
-use Rattle.line_writer.specs.Writing.{roomTest, lineOf, lineSize, writeRefused, writeAnswer, writeLength, bufferAfter}
+use Rattle.line_writer.specs.Writing.{roomTest, writeRefused, writeAnswer, writeLength, bufferAfter}
 use Rattle.line_writer.specs.WriteSteps.{transitivesIn}
 use Rattle.line_writer.specs.WriteBytes.{LaidLine, laid-line}
 
@@ -125,7 +125,7 @@ graphLength D s = lineLength (nameSize D) (line D (graphIn (layoutOf D) s) .size
 record Wrote (D : Description) (s old new : List ℕ) (r : Written) (o : Option Refusal) : Type 0 where
   pub says : ofWritten r ≡ answer WRITTEN o
   pub long : lengthOf r ≡ unlessRefused 0 (graphLength D s) o
-  pub buffer : new ≡ unlessRefused old (lineBytes D (line D (graphIn (layoutOf D) s)) ++ drop (graphLength D s) old) o
+  pub buffer : new ≡ buffered (lineBytes D (line D (graphIn (layoutOf D) s))) old o
 
 module _ (rs cs qs : List ℕ) (R : List Role) (s old : List ℕ) (tab : R ≡ roleTable rs) (fine : partsTest rs cs qs ≡ none) where
   abbrev D : Description
@@ -155,14 +155,15 @@ module _ (rs cs qs : List ℕ) (R : List Role) (s old : List ℕ) (tab : R ≡ r
       says = T .says ∙ ap (λ n. answer WRITTEN (refuse 0 (roomTest n (lineLength (nameSize D) n) (length old)) none)) size-is;
       long = T .long
           ∙ ap (λ n. let long = lineLength (nameSize D) n in unlessRefused 0 long (refuse 0 (roomTest n long (length old)) none)) size-is;
-      buffer = filled room refl (rw size-is at (T .after));
+      buffer = filled room refl (rw size-is at (T .after))
+          ∙ ap (λ n. unlessRefused old (lines ++ drop n old) (refuse 0 room none)) (sym (length-tabulate (graphLength D s) _));
     }
       where
-        whole : List ℕ
-        whole = lineBytes D (line D (graphIn f s)) ++ drop (graphLength D s) old
+        lines : List ℕ
+        lines = lineBytes D (line D (graphIn f s))
 
         filled : (o : Option ℕ) → room ≡ o → After (transitivesIn R (roleCount rs)) cs f s (ancestorsIn R) old new (refuse 0 o none)
-            → new ≡ unlessRefused old whole (refuse 0 o none)
+            → new ≡ unlessRefused old (lines ++ drop (graphLength D s) old) (refuse 0 o none)
         filled none e L = let p = parts-accepted rs cs qs fine in let g = graph-kept in
             let enough = unless↔ (leb (line D (graphIn f s) .size) mostElements) 21 _ .0 e .1 in
             laid-line rs cs qs (p .2) (p .0) (p .1) s (g .head) (g .formed) (g .keeps) R old new tab

@@ -2,11 +2,11 @@
 use Prim.Native.Nat.{ℕ, _≤_}
 use mathlib.Core.Path.{_≡_, refl}
 use mathlib.Core.Logic.{_↔_}
-use mathlib.Core.List.{List, _++_}
+use mathlib.Core.List.{List}
 use mathlib.Core.Option.{Option, none}
 use native.Mathlib.Omega.{arith}
 use lib.Dec.{leb}
-use lib.ListN.{length, drop}
+use lib.ListN.{length}
 use Rattle.logic.specs.Tests.{reading}
 use Rattle.logic.specs.Refusals.{Refusal, unless, unless↔, refuse, refuse↔, firstOf, first↔}
 use Rattle.interpretation.specs.Meaning.{Interpretation}
@@ -19,7 +19,7 @@ use Rattle.graph_check.specs.GraphEvidence.{graphRefused, GraphKept, not-refuse
 use Rattle.answers.specs.declared.Written.{Written}
 use Rattle.answers.specs.declared.Written.the-variants.{Line}
 use Rattle.answers.specs.Answers as Case
-use Rattle.answers.specs.Answers.{ofWritten, lengthOf, case-when, Answer, answer, WRITTEN, told↔, unlessRefused}
+use Rattle.answers.specs.Answers.{ofWritten, lengthOf, case-when, Answer, answer, WRITTEN, told↔, unlessRefused, buffered}
 
 -- the line of the graph that the evidence is
 abbrev pub lineOf : List ℕ → List ℕ → Interpretation
@@ -44,9 +44,9 @@ writeAnswer d s n = answer WRITTEN (writeRefused d s n)
 abbrev pub writeLength : List ℕ → List ℕ → ℕ → ℕ
 writeLength d s n = unlessRefused 0 (lineSize d s) (writeRefused d s n)
 
--- the buffer afterwards: the bytes of the line and then the old bytes; on a refusal all is as before (`demands/Writers`: the law of every writer)
+-- the buffer afterwards
 abbrev pub bufferAfter : List ℕ → List ℕ → List ℕ → List ℕ
-bufferAfter d s old = unlessRefused old (lineBytes (described d) (lineOf d s) ++ drop (lineSize d s) old) (writeRefused d s (length old))
+bufferAfter d s old = buffered (lineBytes (described d) (lineOf d s)) old (writeRefused d s (length old))
 
 -- ---- exactly when
 pub written↔ : (d s : List ℕ) (n : ℕ) → (writeAnswer d s n ≡ answer WRITTEN none)

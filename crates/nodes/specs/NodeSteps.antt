@@ -12,7 +12,7 @@ use Rattle.logic.specs.Tests.{So, _⇒_, so-and, and-l, and-r, same-test, imp�
 use Rattle.logic.specs.Bounded.{allBelow, all-cong, all-intro, all-elim}
 use Rattle.logic.specs.Sets.{has, narrow, within, with}
 use Rattle.logic.specs.SetLaws.{narrow↔, within↔, with↔}
-use Rattle.parts.specs.Numbers.{byteAt, upTo}
+use Rattle.parts.specs.Numbers.{byteAt}
 use Rattle.labels.specs.Labels.{mostEntries, mostLiterals, labelWith}
 use Rattle.labels.specs.Words.{unopposed}
 use Rattle.description.specs.Literals.{Literal, opposite, code, literal, entryOf, adding, literalSet, members, code-literal, literal-code, code-entry, within-set}

@@ -1,14 +1,12 @@
 // Rules 11 and 12 of a graph's record, on its label.
 ghost use mathlib.Core.Path.{_≡_};
-ghost use mathlib.Core.Bool.{_&&_, _||_};
-ghost use Prim.Native.Nat.{_+_, _-_, _*_, _/_, _<_, _≤_};
+ghost use Prim.Native.Nat.{_+_, _-_, _*_, _<_};
 ghost use lib.ListN.{length};
 ghost use Rattle.logic.specs.Bounded.{allBelow};
 ghost use Rattle.labels.specs.Labels.{mostEntries, valueOf};
 ghost use Rattle.nodes.specs.NodeSteps.{opposed, withRules, requiredSet, labelCode, rootSet, partsIn, bothAt};
 ghost use Rattle.tables.specs.Tables.{entryCount};
 use labels::Label;
-use labels::MOST_ENTRIES;
 use labels::below;
 use labels::consistent;
 use labels::holds;
@@ -16,7 +14,6 @@ use labels::lies_within;
 use labels::only;
 use labels::put;
 use parts::byte;
-use parts::up_to;
 use tables::Concept;
 use tables::EntryNo;
 use tables::concept_at;

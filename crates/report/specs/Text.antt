@@ -7,10 +7,10 @@ use native.Mathlib.Omega.{arith}
 use native.Mathlib.Decide.{decLt}
 use borrow.Author.Tests.{lt-ltb, le-ltb}
 use lib.Dec.{ltb}
-use lib.ListN.{length, drop}
+use lib.ListN.{length}
 use Rattle.parts.specs.Numbers.{byteAt}
 use Rattle.laying.specs.Laying.{laid}
-use Rattle.answers.specs.Answers.{Word, REFUSED, INHABITED, EMPTY, WRITTEN, HOLDS, FAILS, HOLDS-OF-NOTHING, DONE, Answer}
+use Rattle.answers.specs.Answers.{Word, REFUSED, INHABITED, EMPTY, WRITTEN, HOLDS, FAILS, HOLDS-OF-NOTHING, DONE, Answer, over}
 
 -- ---- the text
 abbrev pub wordText : Word → List ℕ
@@ -72,13 +72,10 @@ unfolding textOf decimal
 lines = refl
 
 -- ---- a buffer
--- the text, then the old bytes
-unfoldable pub over : List ℕ → List ℕ → List ℕ
-over text old = text ++ drop (length text) old
-
 -- a new buffer is the old one with the text laid over it, which ends there
-abbrev pub Over : List ℕ → List ℕ → List ℕ → ℕ → Type 0
-Over text old new end = (new ≡ over text old) × (end ≡ length text)
+pub record Over (text old new : List ℕ) (end : ℕ) : Type 0 where
+  pub bytes : new ≡ over text old
+  pub size : end ≡ length text
 
 -- a new buffer is the old one with a number's digits at a place, which end there
 abbrev pub Digits : List ℕ → ℕ → ℕ → List ℕ → ℕ → Type 0

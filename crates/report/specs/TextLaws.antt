@@ -9,31 +9,37 @@ use borrow.Author.Tests.{lt-ltb, le-ltb}
 use lib.ListN.{length, set, take, drop, length-append}
 use lib.Seq.{take-append-seam, drop-append-add, drop-drop, sets-eq}
 use Rattle.laying.specs.Laying.{laid}
-use Rattle.answers.specs.Answers.{ofVerdict}
+use Rattle.answers.specs.Answers.{ofVerdict, over}
 use Rattle.answers.specs.declared.Verdict.{Verdict}
-use Rattle.report.specs.Text.{digit, decimal, textOf, over, Over, Digits}
+use Rattle.report.specs.Text.{digit, decimal, textOf, Over, Digits}
 
 -- ---- texts one after another
 -- the first text, and one at the end of those that are laid
 pub over-first : (t old new : List ℕ) (end : ℕ) → (new ≡ laid old 0 t) × (end ≡ 0 + length t) → Over t old new end
-unfolding laid over
-over-first t old new end e = (e .0 ∙ ap (λ n. t ++ drop n old) (zero-add (length t)), e .1 ∙ zero-add (length t))
+unfolding laid
+over-first t old new end e = record { bytes = e .0 ∙ ap (λ n. t ++ drop n old) (zero-add (length t)); size = e .1 ∙ zero-add (length t) }
 
 pub over-next : (t u old mid new : List ℕ) (at end : ℕ) → Over t old mid at → new ≡ laid mid at u → end ≡ at + length u → Over (t ++ u) old new end
-unfolding laid over
-over-next t u old mid new at end o e q = (
-  e ∙ rw (o .0, o .1, take-append-seam t (drop (length t) old), drop-append-add t (drop (length t) old) (length u), drop-drop (length u) (length t) old, length-append t u) refl,
-  q ∙ rw (o .1) (sym (length-append t u)),
-)
+unfolding laid
+over-next t u old mid new at end o e q = record {
+  bytes = e ∙ rw (
+    o .bytes,
+    o .size,
+    take-append-seam t (drop (length t) old),
+    drop-append-add t (drop (length t) old) (length u),
+    drop-drop (length u) (length t) old,
+    length-append t u,
+  ) refl;
+  size = q ∙ rw (o .size) (sym (length-append t u));
+}
 
 -- ---- the line of an answer
 -- the buffer's bytes, the length of the line, and the line as a part of the buffer, which lending it asks for
 module _ (v w : Verdict) (old new : List ℕ) (end : ℕ) where
   pub answered : v ≡ w → Over (textOf (ofVerdict w)) old new end
       → (new ≡ over (textOf (ofVerdict v)) old) × ((end ≡ length (textOf (ofVerdict v))) × ((end ≤ length new) × (end ≡ length (take end new))))
-  unfolding over
   answered e o = let t = textOf (ofVerdict w) in
-      rw e (o .0, (o .1, rw (o .0, o .1) (omega (arith, length-append t (drop (length t) old)), sym (ap length (take-append-seam t (drop (length t) old))))))
+      rw e (o .bytes, (o .size, rw (o .bytes, o .size) (omega (arith, length-append t (drop (length t) old)), sym (ap length (take-append-seam t (drop (length t) old))))))
 
 -- ---- the digits of a number, each stored by itself
 module _ (l : List ℕ) (at n : ℕ) (room : at + 3 ≤ length l) where

@@ -2,11 +2,11 @@
 ghost use mathlib.Core.Path.{_≡_};
 ghost use Prim.Native.Nat.{_+_, _≤_};
 ghost use lib.ListN.{length, take, replicate};
-ghost use Rattle.answers.specs.Answers.{ofVerdict};
+ghost use Rattle.answers.specs.Answers.{ofVerdict, over};
 ghost use Rattle.report.specs.Input.{descriptionIn, evidenceIn};
 ghost use Rattle.report.specs.Cut.{longest};
 ghost use Rattle.laying.specs.Laying.{laid};
-ghost use Rattle.report.specs.Text.{textOf, over, Over, Digits};
+ghost use Rattle.report.specs.Text.{textOf, Over, Digits};
 use answers::Verdict;
 use laying::copy_bytes;
 use parts::read2;

@@ -1,6 +1,6 @@
 use Rattle.report.specs.TextLaws.{digits-one, digits-two, digits-three}
 use native.Mathlib.Omega.{arith}
-use lib.ListN.{length, length-set}
+use lib.ListN.{length-set}
 use borrow.Author.Needs.{needs}
 use Rattle.report.proofs.lay_number.Statement.{statement}
 use Rattle.report.proofs.lay_number.Tie as tie
