@@ -6,14 +6,14 @@
  * docs/FORMAT.md has the bytes of all this, examples/firmware.c and examples/editor.c a use of it.
  *
  * Promised, for inputs of every length and every content:
- *   - each function returns, and its answer is the one that docs/FORMAT.md defines; nothing has to be tested beforehand;
+ *   - each function returns, and its answer is the one that docs/FORMAT.md defines (of an editor's state that no shq_edit_* made, one
+ *     that it allows); nothing has to be tested beforehand;
  *   - only shq_write and shq_edit_* write. shq_write and shq_edit_write write to the buffer: on WRITTEN the bytes of the output and none
  *     behind them, on a refusal none at all. The other shq_edit_* write to the state: on DONE its SHQ_EDITOR_BYTES and none behind them,
  *     on a refusal none at all;
  *   - no heap and no globals, so that calls may run beside each other; no recursion deeper than 9 calls;
  *   - description, evidence and line are read where they lie and are never copied.
- * The first two are proved (docs/DECISIONS.md, 5: what that rests on). Stack is measured, and held below 4,096 bytes a call (docs/COST.md),
- * of shq_edit_* below 5,120.
+ * The first two are proved (docs/DECISIONS.md, 5: what that rests on). Stack is measured, and held below 4,096 bytes a call (docs/COST.md).
  *
  * Asked of the caller:
  *   - each pointer is valid for the length given with it, and is not NULL, not even with length 0;
@@ -153,11 +153,12 @@ uint32_t shq_read(const uint8_t *description, size_t description_length,
  *   shq_edit_rule       adds a rule behind those that are there. 25, or 8.
  *   shq_edit_write      writes the description out: SHQ_WRITTEN, or 22 if the state has too few bytes, then 2, then 22 if the buffer has.
  *
- * In a state made by these alone each role's ancestors and its being simple are true of what is put in, what is written out is exactly
- * that, in the order of the calls, and shq_check never refuses it with 1 to 8. It has SHQ_EDITOR_WRITES(state) bytes.
+ * Of a state made by these alone, what is written out is exactly what was put in, each part in the order of the calls, and shq_check never
+ * refuses it with 1 to 8. It has SHQ_EDITOR_WRITES(state) bytes.
  *
- * Bytes that no operation made are safe to lend: the answer is SHQ_DONE, SHQ_WRITTEN or a refusal, no byte changes but those of the state
- * or the buffer, and a refusal leaves them as they are. But what is then written out may be a description that shq_check refuses. */
+ * Bytes that no operation made are safe to lend: the answer is SHQ_DONE, SHQ_WRITTEN or a refusal, no byte changes but the
+ * SHQ_EDITOR_BYTES of the state or what is written to the buffer, SHQ_DESCRIPTION_MOST at most, and a refusal leaves them all. But what
+ * is then written out may be a description that shq_check refuses, and SHQ_EDITOR_WRITES(state) need not be its length. */
 #define SHQ_EDITOR_BYTES 453
 #define SHQ_EDITOR_WRITES(state) ((size_t)13 + 3 * (size_t)(state)[0] + 6 * (size_t)(state)[1] + (size_t)(state)[3])
 
