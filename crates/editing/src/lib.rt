@@ -1,1 +1,2 @@
-// What each operation of the editor does to a draft of a description, what it refuses, and which drafts there are: definitions and theorems only, in specs/.
+// What each operation of the editor does to a draft of a description, what it refuses, and which drafts there are: definitions and
+// theorems only, in specs/.

@@ -35,7 +35,8 @@ same-length : tie.Need-same-length
 same-length c = search needs
 
 returns-2 : tie.Need-returns-2
-returns-2 c = rw (c .before .before .lay-role .ensures, c .before .before .before .before .before .before .before .byte .ensures, c .before .before .before .before .with-bit .ensures, c .before .before .before .before .before .mask2 .ensures) refl
+returns-2 c = let p = c .before .before in let q = p .before .before in let u = q .before in let v = u .before .before in
+    rw (p .lay-role .ensures, v .byte .ensures, q .with-bit .ensures, u .mask2 .ensures) refl
 
 pub lay-parent-spec : {M : Type 1} → statement M
 lay-parent-spec =

@@ -61,8 +61,8 @@ same-length-3 c = let p = c .before .before .before .before .before .before in l
     omega (arith, length-set (q .args .st .now) 0 (p .count-roles .result + 1))
 
 returns-4 : tie.Need-returns-4
-returns-4 c = let p = c .before .before in let q = p .before .before .before .before in let u = q .before .before .before .before in let st =
-    u .args .st .now in let n = q .count-roles .result in
+returns-4 c = let p = c .before .before in let q = p .before .before .before .before in let u = q .before .before .before .before in let
+    st = u .args .st .now in let n = q .count-roles .result in
     let laid-is = p .lay-role .ensures ∙ laid-fits (set st 0 (n + 1)) (rolesFrom + 3 * n) (u .args .transitive ∷ two 0)
     (omega (arith, length-set st 0 (n + 1))) in
     done-edits _ st _ (omega arith) (λ T rest l. rw laid-is (role-added st (u .args .transitive) n (q .count-roles .ensures .0) T rest l

@@ -52,7 +52,7 @@ loop-less : tie.Need-loop-less Inv-loop μ-loop
 loop-less c = omega arith
 
 loop-again : tie.Need-loop-again Inv-loop μ-loop
-loop-again c = let l = c .before .before .loop in let v = l .inv in let a = c .before .before .before .before .before .before .before .args in (
+loop-again c = let k = c .before .before in let l = k .loop in let v = l .inv in let a = k .before .before .before .before .before .args in (
   omega arith,
   length-set (l .buf) _ _ ∙ v .1,
   ap (λ b. set b (a .at + l .i) (getD (a .src .now) (l .i) 0)) (v .2)

@@ -38,7 +38,10 @@ same-length : tie.Need-same-length
 same-length c = search needs
 
 returns : tie.Need-returns
-returns c = rw (c .before .before .put26 .ensures, c .before .before .before .before .before .before .put25 .ensures, c .before .before .before .before .before .before .before .before .before .before .put24 .ensures, c .before .before .before .before .before .before .before .before .before .before .before .before .before .before .put23 .ensures, c .before .before .before .before .before .before .before .before .before .before .before .before .before .before .before .before .before .before .put22 .ensures, c .before .before .before .before .before .before .before .before .before .before .before .before .before .before .before .before .before .before .before .before .before .before .put2 .ensures) (pairs-laid _ _ _ _ (omega arith))
+returns c = let f = c .before .before in let e = f .before .before .before .before in let d = e .before .before .before .before in let g =
+    d .before .before .before .before in let b = g .before .before .before .before in let a = b .before .before .before .before in
+    rw (f .put26 .ensures, e .put25 .ensures, d .put24 .ensures, g .put23 .ensures, b .put22 .ensures, a .put2 .ensures)
+    (pairs-laid _ _ _ _ (omega arith))
 
 pub lay-pairs-spec : {M : Type 1} → statement M
 lay-pairs-spec =

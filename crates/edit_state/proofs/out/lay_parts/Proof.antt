@@ -28,7 +28,8 @@ same-length : tie.Need-same-length
 same-length c = search needs
 
 returns : tie.Need-returns
-returns c = rw (c .before .before .copy-bytes3 .ensures, c .before .before .before .before .before .before .copy-bytes2 .ensures, c .before .before .before .before .before .before .before .before .before .before .copy-bytes .ensures) (parts-laid _ _ _ _)
+returns c = let q = c .before .before in let u = q .before .before .before .before in let v = u .before .before .before .before in
+    rw (q .copy-bytes3 .ensures, u .copy-bytes2 .ensures, v .copy-bytes .ensures) (parts-laid _ _ _ _)
 
 pub lay-parts-spec : {M : Type 1} → statement M
 lay-parts-spec =
