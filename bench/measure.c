@@ -2,7 +2,8 @@
  * The ending of the file's name says the call: .weigh, .claim, .write, .read or .edit. The file has the description's length in two bytes,
  * the description, then evidence or a line; for a claim C, D, the first piece's length in three bytes, the first piece, the second.
  * A .edit is a script of the editor, in the notation of the rows of editor_vectors: its last item is the one call.
- * Exits with 1 if a line that was written does not read HOLDS, or an item before the last is refused. */
+ * Exits with 1 if a line that was written does not read HOLDS, a description that was written is refused by 1 to 8, or an item before the
+ * last is not done. */
 #include <stdbool.h>
 #include <stdio.h>
 #include <stdlib.h>
@@ -131,7 +132,10 @@ static inline uint32_t play(const struct item *item)
 __attribute__((noinline)) uint32_t last_item(const struct item *item);
 uint32_t last_item(const struct item *item) { return play(item); }
 
-/* Plays a script. Whether all items before the last were done. */
+/* Whether the description in the buffer is accepted: then no evidence is 9. */
+static bool accepted(void) { return shq_number(shq_check(buffer, SHQ_EDITOR_WRITES(state), buffer, 0)) == 9; }
+
+/* Plays a script. Whether all items before the last were done, and what was written, if it was, is accepted. */
 static bool play_script(const char *text, uint32_t *answer, size_t *stack)
 {
     bool done = true;
@@ -141,7 +145,7 @@ static bool play_script(const char *text, uint32_t *answer, size_t *stack)
     paint();
     *answer = last_item(&item);
     *stack = painted_over();
-    return done;
+    return done && (shq_word(*answer) != SHQ_WRITTEN || accepted());
 }
 
 static void tell(uint32_t answer, size_t stack)
@@ -163,9 +167,9 @@ int main(int count, char **words)
     uint32_t answer;
     size_t stack;
     if (whole && call == EDIT) {
-        bool done = play_script((const char *)input, &answer, &stack); /* behind what was read stand zeros */
+        bool right = play_script((const char *)input, &answer, &stack); /* behind what was read stand zeros */
         tell(answer, stack);
-        return done ? 0 : 1;
+        return right ? 0 : 1;
     }
     struct bytes length = cut(&rest, 2);
     struct bytes description = cut(&rest, length.at == NULL ? sizeof input : (size_t)length.at[0] * 256 + length.at[1]);
