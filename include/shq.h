@@ -49,8 +49,8 @@ static inline unsigned shq_number(uint32_t answer) { return (unsigned)(answer >>
 static inline unsigned shq_record(uint32_t answer) { return (unsigned)(answer & 255); }
 
 /* The numbers of refusals. The first that applies is answered, in the order of FORMAT 8, and of FORMAT 11 for a claim. The record is that
- * of the evidence that breaks the rule, from 0; of 20 it is the last, and of 1 to 9 and 21 to 25 it is 0. The editor answers 2 to 8, 22
- * and 25, in the order that is told below.
+ * of the evidence that breaks the rule, from 0; of 20 it is the last, and of 1 to 9 and 21 to 25 it is 0. Of a state that it
+ * made the editor answers 2 to 8, 22 and 25, in the order that is told below.
  *
  *    1  directory      the description is shorter than its head, or its three parts do not fill it one after another
  *    2  part           roles, concepts or question have a length that is no whole number of items, or too few or too many; of

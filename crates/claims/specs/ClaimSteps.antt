@@ -16,8 +16,7 @@ use Rattle.description.specs.Descriptions.{Description}
 use Rattle.tables.specs.Tables.{describe}
 use Rattle.labels.specs.Labels.{mostEntries, labelWith}
 use Rattle.roles.specs.Ancestors.{roleCount}
-use Rattle.roles.specs.Records.{roleTable}
-use Rattle.roles.specs.declared.Role.{Role}
+use Rattle.roles.specs.Records.{MasksOf}
 use Rattle.intake.specs.Intake.{rolesPart, conceptsPart, queryPart, partsTest, parts-accepted, bytesTest}
 use Rattle.intake.specs.Opening.{wholly-none, parts-fine}
 use Rattle.nodes.specs.NodeSteps.{opposed, put-is}
@@ -57,22 +56,22 @@ headFor list n = cond list (RefutationOf n) (GraphOf n)
 abbrev pub kindsAfter : Bool → List ℕ → Pieces
 kindsAfter list t = pieces (headFor list 0) (secondOf t)
 
--- 10 to 20 of the pieces, by the records R of m roles
-abbrev pub piecesCode : List Role → ℕ → List ℕ → List ℕ → ℕ → ℕ → List ℕ → List ℕ → Pieces → Option Refusal
-piecesCode R m cs qs c d s t ListAndGraph = firstOf (listCode R cs qs (counterSet c d) s) (graphCode R m cs qs (labelWith 0 c) t)
-piecesCode R m cs qs c d s t GraphAlone = graphCode R m cs qs (counterSet c d) s
-piecesCode R m cs qs c d s t ListAlone = listCode R cs qs (labelWith 0 c) s
-piecesCode R m cs qs c d s t Misfit = none
-piecesCode R m cs qs c d s t Off = none
+-- 10 to 20 of the pieces, by the masks a of m roles
+abbrev pub piecesCode : List ℕ → ℕ → List ℕ → List ℕ → ℕ → ℕ → List ℕ → List ℕ → Pieces → Option Refusal
+piecesCode a m cs qs c d s t ListAndGraph = firstOf (listCode a cs qs (counterSet c d) s) (graphCode a m cs qs (labelWith 0 c) t)
+piecesCode a m cs qs c d s t GraphAlone = graphCode a m cs qs (counterSet c d) s
+piecesCode a m cs qs c d s t ListAlone = listCode a cs qs (labelWith 0 c) s
+piecesCode a m cs qs c d s t Misfit = none
+piecesCode a m cs qs c d s t Off = none
 
 -- the answer that tests of the pieces end in
 abbrev pub endsIn : Pieces → Option Refusal → Answer
 endsIn p o = answer (shows p) (firstOf o (wholly (kindsRefusal p)))
 
 -- the answer on an opened description
-unfoldable pub openedClaim : List Role → ℕ → List ℕ → List ℕ → ℕ → ℕ → List ℕ → List ℕ → Answer
-openedClaim R m cs qs c d s t = let p = piecesOf s t in
-    answer (shows p) (refuse 0 (literalsCode cs c d) (refuse 0 (kindsRefusal p) (piecesCode R m cs qs c d s t p)))
+unfoldable pub openedClaim : List ℕ → ℕ → List ℕ → List ℕ → ℕ → ℕ → List ℕ → List ℕ → Answer
+openedClaim a m cs qs c d s t = let p = piecesOf s t in
+    answer (shows p) (refuse 0 (literalsCode cs c d) (refuse 0 (kindsRefusal p) (piecesCode a m cs qs c d s t p)))
 
 -- ---- laws for the code: the kinds
 -- the number of records does not matter
@@ -147,26 +146,26 @@ ends-by-kind f m o ListAlone = ap (answer HOLDS-OF-NOTHING) (first-none (f ListA
 ends-by-kind f m o Misfit = rw m refl
 ends-by-kind f m o Off = rw o refl
 
-module _ (R : List Role) (m : ℕ) (cs qs : List ℕ) (c d : ℕ) (s t : List ℕ) (p : Pieces) (q : p ≡ piecesOf s t) where
+module _ (a : List ℕ) (m : ℕ) (cs qs : List ℕ) (c d : ℕ) (s t : List ℕ) (p : Pieces) (q : p ≡ piecesOf s t) where
   abbrev coded : Pieces → Option Refusal
-  coded p = refuse 0 (kindsRefusal p) (piecesCode R m cs qs c d s t p)
+  coded p = refuse 0 (kindsRefusal p) (piecesCode a m cs qs c d s t p)
 
-  joined : answer (shows p) (refuse 0 (literalsCode cs c d) (coded p)) ≡ openedClaim R m cs qs c d s t
+  joined : answer (shows p) (refuse 0 (literalsCode cs c d) (coded p)) ≡ openedClaim a m cs qs c d s t
   unfolding openedClaim
   joined = ap (λ p. answer (shows p) (refuse 0 (literalsCode cs c d) (coded p))) q
 
   -- 24 of the literals refuses
-  pub literals-stop : (z : Refusal) → wholly (literalsCode cs c d) ≡ some z → endsIn p (some z) ≡ openedClaim R m cs qs c d s t
+  pub literals-stop : (z : Refusal) → wholly (literalsCode cs c d) ≡ some z → endsIn p (some z) ≡ openedClaim a m cs qs c d s t
   literals-stop z e = sym (ap (answer (shows p)) (refuse-some 0 (literalsCode cs c d) (coded p) z e)) ∙ joined
 
   -- it does not, and the pieces come to o
-  pub pieces-end : wholly (literalsCode cs c d) ≡ none → (o : Option Refusal) → o ≡ piecesCode R m cs qs c d s t p
-      → endsIn p o ≡ openedClaim R m cs qs c d s t
-  pieces-end e o h = ap (endsIn p) h ∙ ends-by-kind (piecesCode R m cs qs c d s t) refl refl p
+  pub pieces-end : wholly (literalsCode cs c d) ≡ none → (o : Option Refusal) → o ≡ piecesCode a m cs qs c d s t p
+      → endsIn p o ≡ openedClaim a m cs qs c d s t
+  pieces-end e o h = ap (endsIn p) h ∙ ends-by-kind (piecesCode a m cs qs c d s t) refl refl p
       ∙ sym (ap (answer (shows p)) (refuse-none 0 (literalsCode cs c d) (coded p) e)) ∙ joined
 
 -- ---- for an accepted description these are the tests of a claim
-module _ (rs cs qs : List ℕ) (R : List Role) (c d : ℕ) (s t : List ℕ) (tab : R ≡ roleTable rs) (fine : partsTest rs cs qs ≡ none) where
+module _ (rs cs qs : List ℕ) (a : List ℕ) (c d : ℕ) (s t : List ℕ) (masks : MasksOf rs a) (fine : partsTest rs cs qs ≡ none) where
   abbrev D : Description
   D = describe rs cs qs
 
@@ -191,32 +190,32 @@ module _ (rs cs qs : List ℕ) (R : List Role) (c d : ℕ) (s t : List ℕ) (tab
         ap (λ N. labelWith N c)
         (put-is (length cs / 6) 0 (opposed d) few (rw (e, entryOf-opposite (literal d)) d-in) ∙ ap (adding 0) e) ∙ put-c _
 
-    list : (W : List Literal) (N : ℕ) (x : List ℕ) → N ≡ literalSet W → listCode R cs qs N x ≡ listTests D W x
-    list W N x e = let k = parts-accepted rs cs qs fine in ap (λ M. listCode R cs qs M x) e ∙ list-is rs cs qs R W x tab (k .0) (k .1) (k .2)
+    list : (W : List Literal) (N : ℕ) (x : List ℕ) → N ≡ literalSet W → listCode a cs qs N x ≡ listTests D W x
+    list W N x e = let k = parts-accepted rs cs qs fine in ap (λ M. listCode a cs qs M x) e ∙ list-is rs cs qs a W x masks (k .0) (k .1) (k .2)
 
-    graph : (W : List Literal) (N : ℕ) (x : List ℕ) → N ≡ literalSet W → graphCode R (roleCount rs) cs qs N x ≡ graphTests D W x
-    graph W N x e = ap (λ M. graphCode R (roleCount rs) cs qs M x) e ∙ graph-is rs cs qs R W x tab fine
+    graph : (W : List Literal) (N : ℕ) (x : List ℕ) → N ≡ literalSet W → graphCode a (roleCount rs) cs qs N x ≡ graphTests D W x
+    graph W N x e = ap (λ M. graphCode a (roleCount rs) cs qs M x) e ∙ graph-is rs cs qs a W x masks fine
 
-    pieces-are : (p : Pieces) → piecesCode R (roleCount rs) cs qs c d s t p ≡ piecesTests D c d s t p
+    pieces-are : (p : Pieces) → piecesCode a (roleCount rs) cs qs c d s t p ≡ piecesTests D c d s t p
     pieces-are ListAndGraph = ap₂ firstOf (list (counterexample c d) _ s counter-set) (graph (subject c) _ t subject-set)
     pieces-are GraphAlone = graph (counterexample c d) _ s counter-set
     pieces-are ListAlone = list (subject c) _ s subject-set
     pieces-are Misfit = refl
     pieces-are Off = refl
 
-  rest-is : (p : Pieces) → refuse 0 (literalsCode cs c d) (refuse 0 (kindsRefusal p) (piecesCode R (roleCount rs) cs qs c d s t p))
+  rest-is : (p : Pieces) → refuse 0 (literalsCode cs c d) (refuse 0 (kindsRefusal p) (piecesCode a (roleCount rs) cs qs c d s t p))
       ≡ refuse 0 (claimTest D c d) (refuse 0 (kindsRefusal p) (piecesTests D c d s t p))
-  rest-is p = ap (λ b. refuse 0 (unless b 24 none) (refuse 0 (kindsRefusal p) (piecesCode R (roleCount rs) cs qs c d s t p))) literals-are
+  rest-is p = ap (λ b. refuse 0 (unless b 24 none) (refuse 0 (kindsRefusal p) (piecesCode a (roleCount rs) cs qs c d s t p))) literals-are
       ∙ refuse-then 0 (claimTest D c d) _ _ (λ e. let h = unless↔ _ 24 none .0 e .0 in
       let c-in = so-ltb _ _ (and-l _ _ h) in let d-in = so-ltb _ _ (and-r (literalTest D (literal c)) _ h) in
       ap (refuse 0 (kindsRefusal p)) (pieces-are c-in d-in p))
 
 -- a list and then a graph: the list is refused, or it is not
-module _ (R : List Role) (m : ℕ) (cs qs : List ℕ) (c d : ℕ) (s t : List ℕ) (p : Pieces) (q : p ≡ ListAndGraph) where
-  pub list-stops : (z : Refusal) → listCode R cs qs (counterSet c d) s ≡ some z → some z ≡ piecesCode R m cs qs c d s t p
+module _ (a : List ℕ) (m : ℕ) (cs qs : List ℕ) (c d : ℕ) (s t : List ℕ) (p : Pieces) (q : p ≡ ListAndGraph) where
+  pub list-stops : (z : Refusal) → listCode a cs qs (counterSet c d) s ≡ some z → some z ≡ piecesCode a m cs qs c d s t p
   list-stops z e = rw (q, e) refl
 
-  pub list-on : listCode R cs qs (counterSet c d) s ≡ none → graphCode R m cs qs (labelWith 0 c) t ≡ piecesCode R m cs qs c d s t p
+  pub list-on : listCode a cs qs (counterSet c d) s ≡ none → graphCode a m cs qs (labelWith 0 c) t ≡ piecesCode a m cs qs c d s t p
   list-on e = rw (q, e) refl
 
 -- ---- the description comes first
@@ -225,9 +224,9 @@ module _ (x : List ℕ) (c d : ℕ) (s t : List ℕ) where
   unfolding claimAnswer
   claim-refused n i e = sym (ap (answer (shows (piecesOf s t))) (refuse-some 0 (bytesTest x) _ _ (sym e)))
 
-  pub claim-opened : (R : List Role) (m : ℕ) (cs qs : List ℕ) → none ≡ wholly (bytesTest x) → R ≡ roleTable (rolesPart x) → m ≡ roleCount (rolesPart x)
-      → cs ≡ conceptsPart x → qs ≡ queryPart x → openedClaim R m cs qs c d s t ≡ claimAnswer x c d s t
+  pub claim-opened : (a : List ℕ) (m : ℕ) (cs qs : List ℕ) → none ≡ wholly (bytesTest x) → MasksOf (rolesPart x) a → m ≡ roleCount (rolesPart x)
+      → cs ≡ conceptsPart x → qs ≡ queryPart x → openedClaim a m cs qs c d s t ≡ claimAnswer x c d s t
   unfolding claimAnswer openedClaim
-  claim-opened R m cs qs e tab k p q = rw (k, p, q) (ap (answer (shows (piecesOf s t)))
-      (rest-is (rolesPart x) (conceptsPart x) (queryPart x) R c d s t tab (parts-fine x (sym (wholly-none (bytesTest x) e))) (piecesOf s t)
+  claim-opened a m cs qs e masks k p q = rw (k, p, q) (ap (answer (shows (piecesOf s t)))
+      (rest-is (rolesPart x) (conceptsPart x) (queryPart x) a c d s t masks (parts-fine x (sym (wholly-none (bytesTest x) e))) (piecesOf s t)
       ∙ sym (refuse-none 0 (bytesTest x) _ (sym e))))

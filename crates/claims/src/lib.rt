@@ -17,7 +17,6 @@ use labels::only;
 use labels::put;
 use list_check::test_list;
 use nodes::opposite;
-use roles::Role;
 
 // The literals C and D of a claim, by number.
 pub struct Claim {
@@ -109,17 +108,17 @@ fn told(t: Tested, p: Pieces) -> Judgement
     }
 }
 
-// The answer on an opened description with a claim, by the records of so many roles.
+// The answer on an opened description with a claim, by the masks of so many roles.
 fn check_opened(
-    roles: [Role; 16],
-    count: u8,
+    m: &[u16; 32],
+    roles: u8,
     cs: &[u8],
     qs: &[u8],
     k: Claim,
     first: &[u8],
     second: &[u8],
 ) -> Judgement
-    ensures { λ r. ⌜ ofJudgement r ≡ openedClaim roles count (now (cs .entry)) (now (qs .entry)) (k .c) (k .d) (now (first .entry)) (now (second .entry)) ⌝ }
+    ensures { λ r. ⌜ ofJudgement r ≡ openedClaim (now (m .entry)) roles (now (cs .entry)) (now (qs .entry)) (k .c) (k .d) (now (first .entry)) (now (second .entry)) ⌝ }
 {
     let p = kinds(first, second);
     let t = test_literals(cs, k);
@@ -128,17 +127,14 @@ fn check_opened(
     };
     match p {
         Pieces::ListAndGraph => {
-            let u = test_list(roles, cs, qs, counterexample(k), first);
+            let u = test_list(m, cs, qs, counterexample(k), first);
             let Tested::Fine = u else {
                 return told(u, p);
             };
-            told(test_graph(roles, count, cs, qs, only(k.c), second), p)
+            told(test_graph(m, roles, cs, qs, only(k.c), second), p)
         }
-        Pieces::GraphAlone => told(
-            test_graph(roles, count, cs, qs, counterexample(k), first),
-            p,
-        ),
-        Pieces::ListAlone => told(test_list(roles, cs, qs, only(k.c), first), p),
+        Pieces::GraphAlone => told(test_graph(m, roles, cs, qs, counterexample(k), first), p),
+        Pieces::ListAlone => told(test_list(m, cs, qs, only(k.c), first), p),
         Pieces::Misfit => told(t, p),
         Pieces::Off => told(t, p),
     }
@@ -150,11 +146,11 @@ pub fn check_claim(description: &[u8], c: u8, d: u8, first: &[u8], second: &[u8]
 {
     let o = open_description(description);
     let tested = o.tested;
-    let roles = o.roles;
+    let m = o.masks;
     let cs = concepts_part(description);
     let qs = query_part(description);
     match tested {
-        Tested::Fine => check_opened(roles, o.count, cs, qs, Claim { c: c, d: d }, first, second),
+        Tested::Fine => check_opened(&m, o.count, cs, qs, Claim { c: c, d: d }, first, second),
         Tested::Refused(n, r) => Judgement::Refused(n, r),
     }
 }

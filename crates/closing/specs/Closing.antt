@@ -18,7 +18,7 @@ maskAt m at d x y = num2 m (at + 2 * (x * d + y))
 abbrev pub joinedBy : List ℕ → ℕ → ℕ → ℕ → ℕ → ℕ → Bool
 joinedBy m at d r x y = has (maskAt m at d x y) r
 
--- the roles of a pair after closing: its own, and each transitive role (in the mask t) whose closure joins the pair, with its ancestors (in the table a)
+-- the roles of a pair after closing: its own, and each transitive role (in the mask t) whose closure joins the pair, with its ancestors (in the masks a)
 unfoldable pub closedMask : List ℕ → ℕ → ℕ → ℕ → List ℕ → ℕ → ℕ → ℕ
 closedMask m at d t a x y = setOf 16 (λ r. joinedBy m at d r x y
     || anyBelow 16 (λ u. has t u && ((eqb u r || has (getD a u 0) r) && closure d (joinedBy m at d u) x y)))

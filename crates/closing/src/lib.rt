@@ -81,8 +81,8 @@ fn with_above(x: u16, above: u16, m: u16, u: u8) -> u16
 }
 
 // The mask `m` with the ancestors of the roles of `t` in it.
-fn raised(m: u16, t: u16, a: [u16; 16]) -> u16
-    ensures { λ r. ⌜ r ≡ raisedTo m t a 16 ⌝ }
+fn raised(m: u16, t: u16, a: &[u16; 32]) -> u16
+    ensures { λ r. ⌜ r ≡ raisedTo m t (now (a .entry)) 16 ⌝ }
 {
     let closed = m & t;
     if closed == 0 {
@@ -98,9 +98,9 @@ fn raised(m: u16, t: u16, a: [u16; 16]) -> u16
 }
 
 // Every pair has the ancestors of its roles of `t`.
-fn raise(buf: &mut [u8], at: usize, n: u8, t: u16, a: [u16; 16])
+fn raise(buf: &mut [u8], at: usize, n: u8, t: u16, a: &[u16; 32])
     requires { ⌜ masksEnd at n ≤ length (now buf) ⌝ }
-    ensures { λ _. ⌜ Masks at (raisedMask (now (buf .entry)) at t a) (now (buf .entry)) (n * n) (now (buf .exit)) ⌝ }
+    ensures { λ _. ⌜ Masks at (raisedMask (now (buf .entry)) at t (now (a .entry))) (now (buf .entry)) (n * n) (now (buf .exit)) ⌝ }
 {
     let size = (n as u16) * (n as u16);
     let mut p = at;
@@ -114,10 +114,10 @@ fn raise(buf: &mut [u8], at: usize, n: u8, t: u16, a: [u16; 16])
     }
 }
 
-// The transitive roles (mask `t`) of `d` elements closed, and their pairs handed to their ancestors (table `a`). The role masks lie from
+// The transitive roles (mask `t`) of `d` elements closed, and their pairs handed to their ancestors (in front in the masks `a`). The role masks lie from
 // `at` on.
-pub fn close_roles(buf: &mut [u8], at: usize, d: u8, t: u16, a: [u16; 16])
-    ensures { λ _. ⌜ (length (now (buf .exit)) ≡ length (now (buf .entry))) × ((p : ℕ) → byteAt (now (buf .exit)) p ≡ closedByte (now (buf .entry)) at d t a p) ⌝ }
+pub fn close_roles(buf: &mut [u8], at: usize, d: u8, t: u16, a: &[u16; 32])
+    ensures { λ _. ⌜ (length (now (buf .exit)) ≡ length (now (buf .entry))) × ((p : ℕ) → byteAt (now (buf .exit)) p ≡ closedByte (now (buf .entry)) at d t (now (a .entry)) p) ⌝ }
 {
     let n = d as usize;
     if buf.len() < at {

@@ -32,7 +32,7 @@ edgeCount es = upTo mostEdges (length es / 5)
 abbrev pub edgeStruct : List ℕ → ℕ → Code.Edge
 edgeStruct es j = record { target = byteAt es (5 * j); mask = num2 es (5 * j + 1); count = num2 es (5 * j + 3) }
 
--- role r of the mask m brings its ancestors, with the table a of ancestors
+-- role r of the mask m brings its ancestors, by the masks a of the roles
 abbrev pub upwardAt : List ℕ → ℕ → ℕ → Bool
 upwardAt a m r = has m r ⇒ within (getD a r 0) m
 

@@ -61,8 +61,8 @@ fn above_if(above: u16, m: u16, r: u8) -> u16
 }
 
 // Whether the mask holds with each of its roles the ancestors.
-fn upward(a: [u16; 16], m: u16) -> bool
-    ensures { λ q. ⌜ q ≡ within (raised a m) m ⌝ }
+fn upward(a: &[u16; 32], m: u16) -> bool
+    ensures { λ q. ⌜ q ≡ within (raised (now (a .entry)) m) m ⌝ }
 {
     let mut up: u16 = 0;
     let mut r: u8 = 0;
@@ -73,10 +73,10 @@ fn upward(a: [u16; 16], m: u16) -> bool
     up & m == up
 }
 
-// Rule 13 of one edge, in a table of `n` roles and a graph of `size` records; `a` holds the ancestors of each role.
-fn edge_ok(e: Edge, a: [u16; 16], n: u8, size: u8) -> bool
+// Rule 13 of one edge, in a table of `n` roles and a graph of `size` records; `a` has the masks of the roles, their ancestors in front.
+fn edge_ok(e: Edge, a: &[u16; 32], n: u8, size: u8) -> bool
     requires { ⌜ n ≤ 16 ⌝ }
-    ensures { λ q. ⌜ q ≡ edgeCode a n size e ⌝ }
+    ensures { λ q. ⌜ q ≡ edgeCode (now (a .entry)) n size e ⌝ }
 {
     let narrow = fits16(e.mask, n as usize);
     let up = upward(a, e.mask);
@@ -84,9 +84,9 @@ fn edge_ok(e: Edge, a: [u16; 16], n: u8, size: u8) -> bool
 }
 
 // Rule 13 of the first `k` edges.
-fn edges_hold(es: &[u8], k: u8, a: [u16; 16], n: u8, size: u8) -> bool
+fn edges_hold(es: &[u8], k: u8, a: &[u16; 32], n: u8, size: u8) -> bool
     requires { ⌜ n ≤ 16 ⌝ }
-    ensures { λ q. ⌜ q ≡ allBelow k (λ j. edgeCode a n size (edgeStruct (now (es .entry)) j)) ⌝ }
+    ensures { λ q. ⌜ q ≡ allBelow k (λ j. edgeCode (now (a .entry)) n size (edgeStruct (now (es .entry)) j)) ⌝ }
 {
     let mut j: u8 = 0;
     while j < k {
@@ -99,8 +99,8 @@ fn edges_hold(es: &[u8], k: u8, a: [u16; 16], n: u8, size: u8) -> bool
 }
 
 // Rule 13 of the edges `es`, in a table of `roles` roles.
-pub fn edges_ok(es: &[u8], a: [u16; 16], roles: u8, size: u8) -> bool
-    ensures { λ q. ⌜ q ≡ edgesCode a (upTo 16 roles) size (now (es .entry)) ⌝ }
+pub fn edges_ok(es: &[u8], a: &[u16; 32], roles: u8, size: u8) -> bool
+    ensures { λ q. ⌜ q ≡ edgesCode (now (a .entry)) (upTo 16 roles) size (now (es .entry)) ⌝ }
 {
     edges_hold(es, edge_count(es), a, up_to(16, roles as usize), size)
 }

@@ -1,6 +1,7 @@
 pub mod Lent
 pub mod FillLaws
 pub mod PlaceLaws
+pub mod Held
 pub mod EditLaws
 pub mod TestLaws
 pub mod RoleLaws

@@ -19,8 +19,8 @@ use Rattle.labels.specs.Labels.{mostEntries}
 use Rattle.intake.specs.Intake.{mostRoles, mostRules}
 use Rattle.answers.specs.Answers.{wholly, unlessRefused}
 use Rattle.editing.specs.Inclusions.{ParentsIn}
-use Rattle.editing.specs.Editing.{loneRole, Draft, isSet, describes, roleForm, entryForm, queryKept, tests, broken, Edit, newRole}
-use Rattle.editing.specs.Editing.{inclusion, concept, newRoot, newRule, putIn, hasRoom, inTable, refusal, Made, start, next}
+use Rattle.editing.specs.Editing.{loneRole, Draft, isSet, describes, roleForm, entryForm, queryKept, tests, broken, nothing, Edit}
+use Rattle.editing.specs.Editing.{newRole, inclusion, concept, newRoot, newRule, putIn, hasRoom, inTable, refusal, Made, start, next}
 
 pub broken-is : (T : Draft) → broken T ≡ tests (roleForm T) (entryForm T) (queryKept T) (describes T)
 unfolding broken
@@ -58,7 +58,7 @@ done↔ T e = (
 )
 
 -- what holds at the start, and of what a done operation leaves, holds of all drafts that are made
-pub made-ind : (P : Draft → Type 0) → P (record { roles = []; entries = []; root = none; rules = [] })
+pub made-ind : (P : Draft → Type 0) → P nothing
     → ((T : Draft) (e : Edit) → P T → refusal T e ≡ none → P (putIn T e)) → (T : Draft) → Made T → P T
 made-ind P z s T start = z
 made-ind P z s T (next {T = U} e m) = go (made-ind P z s U m) (refusal U e) refl

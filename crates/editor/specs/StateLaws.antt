@@ -20,6 +20,7 @@ use Rattle.edit_bytes.specs.OutLaws.{roles-long, byte-of, mask-of, is-described
 use Rattle.edit_state.specs.Lent as Lent
 use Rattle.edit_state.specs.Lent.{stateBytes, draftBytes, Lends, rolesIn, tableIn}
 use Rattle.edit_state.specs.PlaceLaws.{roles-count, table-read}
+use Rattle.edit_state.specs.Held.{trueRecord, records-true}
 use Rattle.edit_state.specs.EditLaws.{empty-bytes, stays}
 use Rattle.editor.specs.declared.Editor.{Editor}
 use Rattle.editor.specs.declared.Edited as Told
@@ -91,34 +92,5 @@ module _ (s : Editor) (T : Draft) (h : Holds s T) where
   held-number = roles-count (s .bytes) T [] (lends s T h)
 
   -- the record of each role that is there is true: its ancestors, and whether it is simple, are those of the description so far
-  pub held-true : (i : ℕ) → i < length (T .roles) → roleAt (s .table) i ≡ record {
-    transitive = roleIn T i .transitive;
-    parents = roleIn T i .parents;
-    ancestors = ancestorMask (describes T) i;
-    simple = simple (describes T) i;
-  }
-  held-true i k = same (table-bytes rs _ table i l ∙ byte-of T i) (table-parents rs _ table i l ∙ mask-of T i)
-      (table-masks rs _ table cs qs few i l ∙ ap (λ D. ancestorMask D i) (is-described T))
-      (table-simple rs _ table cs qs few i l ∙ ap (λ D. simple D i) (is-described T))
-    where
-      rs : List ℕ
-      rs = rolesOut T
-
-      cs : List ℕ
-      cs = conceptsOut T
-
-      qs : List ℕ
-      qs = queryOut T
-
-      table : s .table ≡ roleTable rs
-      table = ap (λ s. s .table) (h .state)
-
-      l : i < 16
-      l = omega (arith, made-few T (h .made))
-
-      few : length rs / 3 ≤ 16
-      few = omega (arith, made-few T (h .made), roles-long T)
-
-      same : {R : Role} {t p a : ℕ} {b : Bool} → R .transitive ≡ t → R .parents ≡ p → R .ancestors ≡ a → R .simple ≡ b
-          → R ≡ record { transitive = t; parents = p; ancestors = a; simple = b }
-      same u v w x = rw (← u, ← v, ← w, ← x) refl
+  pub held-true : (i : ℕ) → i < length (T .roles) → roleAt (s .table) i ≡ trueRecord T i
+  held-true = records-true T (h .made) (s .table) (ap (λ s. s .table) (h .state))

@@ -119,7 +119,7 @@ pub fn add_rule(s: Editor, literal: u8) -> Edited
     after(s, answer, bytes)
 }
 
-// The records of the roles. Those behind the last role are of no role.
+// The records of the roles. Those behind the last role mean nothing.
 pub fn role_records(s: Editor) -> [Role; 16]
     ensures { λ r. ⌜ r ≡ s .table ⌝ }
 {

@@ -9,14 +9,13 @@ ghost use Prim.Native.Nat.{ℕ, _*_, _%_, _<_};
 ghost use lib.Dec.{eqb, leb, ltb};
 ghost use Rattle.logic.specs.Tests.{_⇒_};
 ghost use Rattle.logic.specs.Refusals.{unless, refuse};
-ghost use Rattle.logic.specs.Sets.{has};
 ghost use Rattle.labels.specs.Labels.{mostEntries, valueOf, labelWith};
 ghost use Rattle.labels.specs.Words.{meet};
 ghost use Rattle.evidence.specs.Evidence.{labelOf};
 ghost use Rattle.tables.specs.Tables.{fieldsAt};
 ghost use Rattle.answers.specs.Answers.{refusalOf};
 ghost use Rattle.fillers.specs.FillerSteps.{allHave, someHas, allDecide, fillers};
-ghost use Rattle.fillers.specs.FillerSteps.{everyAbove, hasAbove, carried, everyHolds, leastHolds, leastAt, countsCode};
+ghost use Rattle.fillers.specs.FillerSteps.{everyAbove, hasAbove, everyHolds, leastHolds, leastAt, countsCode};
 ghost use Rattle.fillers.specs.Gathered.{Gathered, Counted};
 ghost use Rattle.fillers.specs.Sources.{sourcesAbove, sourcesOf, SourcesOf, everyWith, everysWith};
 use answers::Tested;
@@ -30,7 +29,6 @@ use labels::holds;
 use labels::next_rest;
 use labels::put;
 use nodes::opposite;
-use roles::Role;
 use roles::has16;
 use tables::Concept;
 use tables::Count;
@@ -84,15 +82,14 @@ fn has_above(cs: &[u8], x: Label, above: u16, l: u8) -> bool
     false
 }
 
-// Whether the role of this record is transitive and the label holds "every q l" for an ancestor `q` of it.
-pub fn is_carried(cs: &[u8], r: Role, x: Label, l: u8) -> bool
-    ensures { λ q. ⌜ q ≡ carried (now (cs .entry)) r (valueOf x) l ⌝ }
+// Whether the edges of a role carry "every" of it and `l` on; `carry` has its ancestors if it is transitive, and is empty if it is not.
+pub fn is_carried(cs: &[u8], carry: u16, x: Label, l: u8) -> bool
+    ensures { λ q. ⌜ q ≡ hasAbove (now (cs .entry)) (valueOf x) carry l ⌝ }
 {
-    if r.transitive == 1 {
-        has_above(cs, x, r.ancestors, l)
-    } else {
-        false
+    if carry == 0 {
+        return false;
     }
+    has_above(cs, x, carry, l)
 }
 
 // The label with entry `f`, if that is an "every q l" with `q` in the mask `above`.
@@ -122,27 +119,28 @@ fn sources_above(cs: &[u8], above: u16, l: u8) -> Label
 }
 
 // The sources of entry `e`: none if it is no "every" or its role is not transitive.
-fn sources_at(t: [Role; 16], cs: &[u8], e: EntryNo) -> Label
-    ensures { λ q. ⌜ valueOf q ≡ sourcesOf t (now (cs .entry)) (fieldsAt (now (cs .entry)) (e .0)) ⌝ }
+fn sources_at(m: &[u16; 32], cs: &[u8], e: EntryNo) -> Label
+    ensures { λ q. ⌜ valueOf q ≡ sourcesOf (now (m .entry)) (now (cs .entry)) (fieldsAt (now (cs .entry)) (e .0)) ⌝ }
 {
     let g = fields_at(cs, e);
-    let r = t[(g.role % 16) as usize];
-    if (g.kind == 3) & (r.transitive == 1) {
-        sources_above(cs, r.ancestors, g.first)
+    let above = m[(16 + g.role % 16) as usize];
+    if (g.kind == 3) & (above != 0) {
+        sources_above(cs, above, g.first)
     } else {
         empty()
     }
 }
 
-// For each entry "every r l" with `r` transitive, the entries whose presence in a label makes the edges of role `r` carry it on.
-pub fn sources(t: [Role; 16], cs: &[u8]) -> [u64; MOST_ENTRIES as usize]
-    ensures { λ q. ⌜ SourcesOf t (now (cs .entry)) q ⌝ }
+// For each entry "every r l" with `r` transitive, the entries whose presence in a label makes the edges of role `r` carry it on; `m` has the masks
+// of the roles.
+pub fn sources(m: &[u16; 32], cs: &[u8]) -> [u64; MOST_ENTRIES as usize]
+    ensures { λ q. ⌜ SourcesOf (now (m .entry)) (now (cs .entry)) q ⌝ }
 {
     let n = entry_count(cs);
     let mut out: [u64; MOST_ENTRIES as usize] = [0; MOST_ENTRIES as usize];
     let mut e: u8 = 0;
     while e < n {
-        out[e as usize] = entries_of(sources_at(t, cs, EntryNo(e)));
+        out[e as usize] = entries_of(sources_at(m, cs, EntryNo(e)));
         e += 1;
     }
     out

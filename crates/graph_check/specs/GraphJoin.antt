@@ -7,7 +7,7 @@ use native.Mathlib.Omega.{arith}
 use borrow.Author.Tests.{ne-eqb, le-leb}
 use lib.ListN.{length}
 use Rattle.logic.specs.Tests.{and-l}
-use Rattle.logic.specs.Refusals.{unless, unless↔, unless-then, refuse, refuse-then, refuseFrom, records↔, records-then, records-later, records-cong}
+use Rattle.logic.specs.Refusals.{unless, unless↔, unless-then, refuse-then, refuseFrom, records↔, records-then, records-later, records-cong}
 use Rattle.logic.specs.Bounded.{allBelow}
 use Rattle.logic.specs.Lists.{each}
 use Rattle.parts.specs.Numbers.{upTo, up-to-all}
@@ -17,8 +17,7 @@ use Rattle.description.specs.Roles.{anc-in}
 use Rattle.description.specs.Acceptance.{Accepted}
 use Rattle.tables.specs.Tables.{describe}
 use Rattle.roles.specs.Ancestors.{roleCount}
-use Rattle.roles.specs.Records.{roleTable, ancestorsIn, table-ancestors}
-use Rattle.roles.specs.declared.Role.{Role}
+use Rattle.roles.specs.Records.{MasksOf, masks-plain}
 use Rattle.intake.specs.Intake.{partsTest, parts-accepted}
 use Rattle.labels.specs.Labels.{mostEntries}
 use Rattle.evidence.specs.declared.Layout.{Layout}
@@ -56,7 +55,7 @@ unfolding literalSet
 need-is qs W zero = refl
 need-is qs W (suc x) = rw (ne-eqb (suc x) 0 (λ e. omega arith)) refl
 
-module _ (rs cs qs : List ℕ) (t : List Role) (tab : t ≡ roleTable rs) (few : length rs / 3 ≤ 16) (table : length cs / 6 ≤ mostEntries) (acc : Accepted (describe rs cs qs))
+module _ (rs cs qs : List ℕ) (a : List ℕ) (masks : MasksOf rs a) (few : length rs / 3 ≤ 16) (table : length cs / 6 ≤ mostEntries) (acc : Accepted (describe rs cs qs))
     (W : List Literal) (s : List ℕ) (head : HeadOk s) where
   abbrev D : Description
   D = describe rs cs qs
@@ -74,13 +73,13 @@ module _ (rs cs qs : List ℕ) (t : List Role) (tab : t ≡ roleTable rs) (few :
     labels : (y : ℕ) → y < n → (l : Literal) → labelAt (graphIn f s) y l ≡ members (labelOf f s y) l
     labels y h l = ap (λ N. members N l) (label-there s head f formed y h)
 
-    node-is : (x : ℕ) → x < n → recordCode t (roleCount rs) cs qs (literalSet W) f s n x ≡ nodeAtTest D W s x
+    node-is : (x : ℕ) → x < n → recordCode a (roleCount rs) cs qs (literalSet W) f s n x ≡ nodeAtTest D W s x
     unfolding nodeTests nodeRefusal nodeAtTest
     node-is x h = rw (label-there s head f formed x h, edges-there s head f formed x h, graph-size f s) (
         unless-then _ _ 11 _ _ label (λ _.
         unless-then _ _ 12 _ _ both (λ _.
         unless-then _ _ 13 _ _ edges (λ pass. let p = sym edges ∙ pass in
-        unless-then _ _ 14 _ _ (everys-are rs cs qs (labelOf f s) table n (labelAt (graphIn f s)) labels (labelOf f s x) (edgesPart f s x) (edges-few s head f formed x h) p t tab few acc) (λ _.
+        unless-then _ _ 14 _ _ (everys-are rs cs qs (labelOf f s) table n (labelAt (graphIn f s)) labels (labelOf f s x) (edgesPart f s x) (edges-few s head f formed x h) p a masks few acc) (λ _.
         unless-then _ _ 15 _ _ (counts-are rs cs qs (labelOf f s) table n (labelAt (graphIn f s)) labels (labelOf f s x) (edgesPart f s x) (edges-few s head f formed x h) p) (λ _. refl))))))
       where
         label : labelCode (entryCount cs) (labelOf f s x) (needOf (requiredSet qs (literalSet W)) (requiredSet qs 0) x) ≡ labelTest D (wantedAt W x) (labelOf f s x)
@@ -90,27 +89,27 @@ module _ (rs cs qs : List ℕ) (t : List Role) (tab : t ≡ roleTable rs) (few :
         both : allBelow (entryCount cs) (bothAt cs (labelOf f s x)) ≡ bothTest D (members (labelOf f s x))
         both = ap (λ k. allBelow k (bothAt cs (labelOf f s x))) (up-to-all mostEntries (length cs / 6) table) ∙ both-is rs cs qs (labelOf f s x)
 
-        edges : edgesCode (ancestorsIn t) (upTo 16 (roleCount rs)) n (edgesPart f s x) ≡ each (edgesIn (edgesPart f s x)) (edgeTest storedGraph D n)
-        edges = ap (λ k. edgesCode (ancestorsIn t) k n (edgesPart f s x)) (ap (upTo 16) (up-to-all 16 (length rs / 3) few) ∙ up-to-all 16 (length rs / 3) few)
-            ∙ edges-are rs cs qs (ancestorsIn t) (table-ancestors rs t tab) few (λ r q. anc-in D (acc .parents-in) r q) n (edgesPart f s x) (edges-few s head f formed x h)
+        edges : edgesCode a (upTo 16 (roleCount rs)) n (edgesPart f s x) ≡ each (edgesIn (edgesPart f s x)) (edgeTest storedGraph D n)
+        edges = ap (λ k. edgesCode a k n (edgesPart f s x)) (ap (upTo 16) (up-to-all 16 (length rs / 3) few) ∙ up-to-all 16 (length rs / 3) few)
+            ∙ edges-are rs cs qs a (masks-plain rs a masks) few (λ r q. anc-in D (acc .parents-in) r q) n (edgesPart f s x) (edges-few s head f formed x h)
 
-    records-are : refuseFrom (recordCode t (roleCount rs) cs qs (literalSet W) f s n) n 0 none ≡ graphRefusal storedGraph D W (graphIn f s)
-    records-are = records-cong (recordCode t (roleCount rs) cs qs (literalSet W) f s n) (nodeAtTest D W s) n 0 none (λ x _ h. node-is x (omega arith)) ∙ sym (rules-on D W s formed)
+    records-are : refuseFrom (recordCode a (roleCount rs) cs qs (literalSet W) f s n) n 0 none ≡ graphRefusal storedGraph D W (graphIn f s)
+    records-are = records-cong (recordCode a (roleCount rs) cs qs (literalSet W) f s n) (nodeAtTest D W s) n 0 none (λ x _ h. node-is x (omega arith)) ∙ sym (rules-on D W s formed)
 
-  forms-are : recordsCode t (roleCount rs) cs qs (literalSet W) s n ≡ refuseFrom (formAt f s) n 0 (graphRefusal storedGraph D W (graphIn f s))
+  forms-are : recordsCode a (roleCount rs) cs qs (literalSet W) s n ≡ refuseFrom (formAt f s) n 0 (graphRefusal storedGraph D W (graphIn f s))
   unfolding recordsCode
   forms-are = records-cong (formOf f s) (formAt f s) n 0 _ (λ x _ h. form-is x (omega arith))
       ∙ records-later (formAt f s) n 0 _ _ (λ pass. records-are (λ x h. node-form↔ f _ .0 (unless↔ _ 10 none .0 (pass x (omega arith) (omega arith)) .0)))
 
 -- 9 to 15, for accepted parts
-pub graph-is : (rs cs qs : List ℕ) (t : List Role) (W : List Literal) (s : List ℕ) → t ≡ roleTable rs → partsTest rs cs qs ≡ none
-    → graphCode t (roleCount rs) cs qs (literalSet W) s ≡ graphTests (describe rs cs qs) W s
+pub graph-is : (rs cs qs : List ℕ) (a : List ℕ) (W : List Literal) (s : List ℕ) → MasksOf rs a → partsTest rs cs qs ≡ none
+    → graphCode a (roleCount rs) cs qs (literalSet W) s ≡ graphTests (describe rs cs qs) W s
 unfolding graphCode graphTests
-graph-is rs cs qs t W s tab e = let k = parts-accepted rs cs qs e in
-    refuse-then 0 (unless (graphHead s) 9 none) _ _ (λ h. forms-are rs cs qs t tab (k .0) (k .1) (k .2) W s (head↔ s .0 (and-l (headTest s) _ (unless↔ (graphHead s) 9 none .0 h .0))))
+graph-is rs cs qs a W s masks e = let k = parts-accepted rs cs qs e in
+    refuse-then 0 (unless (graphHead s) 9 none) _ _ (λ h. forms-are rs cs qs a masks (k .0) (k .1) (k .2) W s (head↔ s .0 (and-l (headTest s) _ (unless↔ (graphHead s) 9 none .0 h .0))))
 
 -- the same where the root is wanted
-pub sample-is : (rs cs qs : List ℕ) (t : List Role) (s : List ℕ) → t ≡ roleTable rs → partsTest rs cs qs ≡ none
-    → graphCode t (roleCount rs) cs qs (rootSet qs) s ≡ graphTests (describe rs cs qs) (wanted (describe rs cs qs)) s
-sample-is rs cs qs t s tab e = let k = parts-accepted rs cs qs e in
-    ap (λ M. graphCode t (roleCount rs) cs qs M s) (root-is rs cs qs (k .1) (k .2 .root-in)) ∙ graph-is rs cs qs t (wanted (describe rs cs qs)) s tab e
+pub sample-is : (rs cs qs : List ℕ) (a : List ℕ) (s : List ℕ) → MasksOf rs a → partsTest rs cs qs ≡ none
+    → graphCode a (roleCount rs) cs qs (rootSet qs) s ≡ graphTests (describe rs cs qs) (wanted (describe rs cs qs)) s
+sample-is rs cs qs a s masks e = let k = parts-accepted rs cs qs e in
+    ap (λ M. graphCode a (roleCount rs) cs qs M s) (root-is rs cs qs (k .1) (k .2 .root-in)) ∙ graph-is rs cs qs a (wanted (describe rs cs qs)) s masks e

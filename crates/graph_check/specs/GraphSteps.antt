@@ -15,8 +15,6 @@ use Rattle.evidence.specs.declared.Layout.{Layout}
 use Rattle.evidence.specs.Evidence.{recordCount, layoutFor, edgesPart, nodeFormTest, labelOf}
 use Rattle.nodes.specs.NodeSteps.{labelCode, requiredSet, bothAt}
 use Rattle.tables.specs.Tables.{entryCount}
-use Rattle.roles.specs.Records.{ancestorsIn}
-use Rattle.roles.specs.declared.Role.{Role}
 use Rattle.edges.specs.EdgeSteps.{edgesCode}
 use Rattle.fillers.specs.FillerSteps.{everysCode, countsCode}
 use Rattle.fillers.specs.Sources.{SourcesOf, everysWith, everys-with}
@@ -35,7 +33,7 @@ formOf f s i = unless (formCode f s i) 10 none
 abbrev pub needOf : ℕ → ℕ → ℕ → ℕ
 needOf first later i = cond (eqb i 0) first later
 
--- 11 to 15, of a record with label N and edges es, which is to have the set K, in a graph of n records, with the ancestors a of each of m roles;
+-- 11 to 15, of a record with label N and edges es, which is to have the set K, in a graph of n records, with the masks a of m roles;
 -- num y is the label of record y, and `every` says that 14 holds
 unfoldable pub nodeTests : List ℕ → ℕ → List ℕ → Bool → ℕ → (ℕ → ℕ) → ℕ → ℕ → List ℕ → Option ℕ
 nodeTests a m cs every K num n N es =
@@ -45,9 +43,9 @@ nodeTests a m cs every K num n N es =
     (unless every 14
     (unless (countsCode cs num N es) 15 none))))
 
--- with the role records; and with the ancestors and the table of sources that are made of them once
-abbrev pub recordNeeds : List Role → ℕ → List ℕ → ℕ → Layout → List ℕ → ℕ → ℕ → Option ℕ
-recordNeeds t m cs K f s n i = nodeTests (ancestorsIn t) m cs (everysCode t cs (labelOf f s) (labelOf f s i) (edgesPart f s i)) K (labelOf f s) n (labelOf f s i) (edgesPart f s i)
+-- with the masks of the roles; and with the table of sources that is made of them once
+abbrev pub recordNeeds : List ℕ → ℕ → List ℕ → ℕ → Layout → List ℕ → ℕ → ℕ → Option ℕ
+recordNeeds a m cs K f s n i = nodeTests a m cs (everysCode a cs (labelOf f s) (labelOf f s i) (edgesPart f s i)) K (labelOf f s) n (labelOf f s i) (edgesPart f s i)
 
 abbrev pub nodeWith : List ℕ → ℕ → List ℕ → List ℕ → ℕ → (ℕ → ℕ) → ℕ → ℕ → List ℕ → Option ℕ
 nodeWith a m cs src K num n N es = nodeTests a m cs (everysWith cs num src N es) K num n N es
@@ -56,22 +54,22 @@ abbrev pub recordWith : List ℕ → ℕ → List ℕ → List ℕ → ℕ → L
 recordWith a m cs src K f s n i = nodeWith a m cs src K (labelOf f s) n (labelOf f s i) (edgesPart f s i)
 
 -- record 0 is to have one set, the others another; so where the set M is wanted of record 0
-abbrev pub recordFor : List Role → ℕ → List ℕ → ℕ → ℕ → Layout → List ℕ → ℕ → ℕ → Option ℕ
-recordFor t m cs first later f s n i = recordNeeds t m cs (needOf first later i) f s n i
+abbrev pub recordFor : List ℕ → ℕ → List ℕ → ℕ → ℕ → Layout → List ℕ → ℕ → ℕ → Option ℕ
+recordFor a m cs first later f s n i = recordNeeds a m cs (needOf first later i) f s n i
 
-abbrev pub recordCode : List Role → ℕ → List ℕ → List ℕ → ℕ → Layout → List ℕ → ℕ → ℕ → Option ℕ
-recordCode t m cs qs M f s n i = recordFor t m cs (requiredSet qs M) (requiredSet qs 0) f s n i
+abbrev pub recordCode : List ℕ → ℕ → List ℕ → List ℕ → ℕ → Layout → List ℕ → ℕ → ℕ → Option ℕ
+recordCode a m cs qs M f s n i = recordFor a m cs (requiredSet qs M) (requiredSet qs 0) f s n i
 
 -- 10 to 15, of evidence stored as for the part cs
 abbrev pub layoutIn : List ℕ → Layout
 layoutIn cs = layoutFor (length cs / 6)
 
-unfoldable pub recordsCode : List Role → ℕ → List ℕ → List ℕ → ℕ → List ℕ → ℕ → Option Refusal
-recordsCode t m cs qs M s n = refuseFrom (formOf (layoutIn cs) s) n 0 (refuseFrom (recordCode t m cs qs M (layoutIn cs) s n) n 0 none)
+unfoldable pub recordsCode : List ℕ → ℕ → List ℕ → List ℕ → ℕ → List ℕ → ℕ → Option Refusal
+recordsCode a m cs qs M s n = refuseFrom (formOf (layoutIn cs) s) n 0 (refuseFrom (recordCode a m cs qs M (layoutIn cs) s n) n 0 none)
 
 -- 9 to 15
-unfoldable pub graphCode : List Role → ℕ → List ℕ → List ℕ → ℕ → List ℕ → Option Refusal
-graphCode t m cs qs M s = refuse 0 (unless (graphHead s) 9 none) (recordsCode t m cs qs M s (recordCount s))
+unfoldable pub graphCode : List ℕ → ℕ → List ℕ → List ℕ → ℕ → List ℕ → Option Refusal
+graphCode a m cs qs M s = refuse 0 (unless (graphHead s) 9 none) (recordsCode a m cs qs M s (recordCount s))
 
 -- ---- laws for the code
 pub need-first : (first later i : ℕ) → i ≡ 0 → first ≡ needOf first later i
@@ -107,35 +105,35 @@ pub record-read : (a : List ℕ) (m : ℕ) (cs src : List ℕ) (K : ℕ) (f : La
     → refuse i (nodeWith a m cs src K (labelOf f s) n N es) none ≡ refuse i (recordWith a m cs src K f s n i) none
 record-read a m cs src K f s n i N es p q = rw (p, q) refl
 
--- one record after the other, with the tables that are made of the role records
-record-with : (t : List Role) (a : List ℕ) (m : ℕ) (cs src : List ℕ) (K : ℕ) (f : Layout) (s : List ℕ) (n i : ℕ) → a ≡ ancestorsIn t → SourcesOf t cs src
-    → recordWith a m cs src K f s n i ≡ recordNeeds t m cs K f s n i
-record-with t a m cs src K f s n i e T = rw e (ap (λ b. nodeTests (ancestorsIn t) m cs b K (labelOf f s) n (labelOf f s i) (edgesPart f s i))
-    (everys-with t cs (labelOf f s i) (labelOf f s) (edgesPart f s i) src T))
+-- one record after the other, with the table of sources
+record-with : (a : List ℕ) (m : ℕ) (cs src : List ℕ) (K : ℕ) (f : Layout) (s : List ℕ) (n i : ℕ) → SourcesOf a cs src
+    → recordWith a m cs src K f s n i ≡ recordNeeds a m cs K f s n i
+record-with a m cs src K f s n i T = ap (λ b. nodeTests a m cs b K (labelOf f s) n (labelOf f s i) (edgesPart f s i))
+    (everys-with a cs (labelOf f s i) (labelOf f s) (edgesPart f s i) src T)
 
 abbrev pub recordsWith : List ℕ → ℕ → List ℕ → List ℕ → ℕ → ℕ → Layout → List ℕ → ℕ → ℕ → Option ℕ
 recordsWith a m cs src first later f s n i = recordWith a m cs src (needOf first later i) f s n i
 
-pub records-with : (t : List Role) (a : List ℕ) (m : ℕ) (cs src : List ℕ) (first later : ℕ) (f : Layout) (s : List ℕ) (n : ℕ) → a ≡ ancestorsIn t → SourcesOf t cs src
-    → refuseFrom (recordsWith a m cs src first later f s n) n 0 none ≡ refuseFrom (recordFor t m cs first later f s n) n 0 none
-records-with t a m cs src first later f s n e T = ap (λ g. refuseFrom g n 0 none) (fun-ext (λ i. record-with t a m cs src (needOf first later i) f s n i e T))
+pub records-with : (a : List ℕ) (m : ℕ) (cs src : List ℕ) (first later : ℕ) (f : Layout) (s : List ℕ) (n : ℕ) → SourcesOf a cs src
+    → refuseFrom (recordsWith a m cs src first later f s n) n 0 none ≡ refuseFrom (recordFor a m cs first later f s n) n 0 none
+records-with a m cs src first later f s n T = ap (λ g. refuseFrom g n 0 none) (fun-ext (λ i. record-with a m cs src (needOf first later i) f s n i T))
 
 -- 10, then 11 to 15, of evidence stored as f says
-module _ (t : List Role) (m : ℕ) (cs qs : List ℕ) (M : ℕ) (s : List ℕ) (n : ℕ) (f : Layout) (e : f ≡ layoutIn cs) where
-  pub forms-stop : (z : Refusal) → refuseFrom (formOf f s) n 0 none ≡ some z → some z ≡ recordsCode t m cs qs M s n
+module _ (a : List ℕ) (m : ℕ) (cs qs : List ℕ) (M : ℕ) (s : List ℕ) (n : ℕ) (f : Layout) (e : f ≡ layoutIn cs) where
+  pub forms-stop : (z : Refusal) → refuseFrom (formOf f s) n 0 none ≡ some z → some z ≡ recordsCode a m cs qs M s n
   unfolding recordsCode
-  forms-stop z q = rw (← e) (sym (records-refused (formOf f s) n 0 (refuseFrom (recordCode t m cs qs M f s n) n 0 none) z q))
+  forms-stop z q = rw (← e) (sym (records-refused (formOf f s) n 0 (refuseFrom (recordCode a m cs qs M f s n) n 0 none) z q))
 
-  pub forms-on : refuseFrom (formOf f s) n 0 none ≡ none → refuseFrom (recordCode t m cs qs M f s n) n 0 none ≡ recordsCode t m cs qs M s n
+  pub forms-on : refuseFrom (formOf f s) n 0 none ≡ none → refuseFrom (recordCode a m cs qs M f s n) n 0 none ≡ recordsCode a m cs qs M s n
   unfolding recordsCode
-  forms-on q = rw (← e) (sym (records-then (formOf f s) n 0 (refuseFrom (recordCode t m cs qs M f s n) n 0 none) q))
+  forms-on q = rw (← e) (sym (records-then (formOf f s) n 0 (refuseFrom (recordCode a m cs qs M f s n) n 0 none) q))
 
 -- 9, then those
-module _ (t : List Role) (m : ℕ) (cs qs : List ℕ) (M : ℕ) (s : List ℕ) where
-  pub head-stop : graphHead s ≡ false → refusalOf (Refused 9 0) ≡ graphCode t m cs qs M s
+module _ (a : List ℕ) (m : ℕ) (cs qs : List ℕ) (M : ℕ) (s : List ℕ) where
+  pub head-stop : graphHead s ≡ false → refusalOf (Refused 9 0) ≡ graphCode a m cs qs M s
   unfolding graphCode
   head-stop e = rw e refl
 
-  pub head-on : (n : ℕ) → graphHead s ≡ true → n ≡ recordCount s → recordsCode t m cs qs M s n ≡ graphCode t m cs qs M s
+  pub head-on : (n : ℕ) → graphHead s ≡ true → n ≡ recordCount s → recordsCode a m cs qs M s n ≡ graphCode a m cs qs M s
   unfolding graphCode
   head-on n e q = rw (e, q) refl

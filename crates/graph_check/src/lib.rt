@@ -26,8 +26,6 @@ use nodes::label_ok;
 use nodes::required;
 use nodes::root_set;
 use parts::read2;
-use roles::Role;
-use roles::ancestors_of;
 
 // Test 10 of record `i`.
 fn form_ok(s: &[u8], i: u8, f: Layout) -> bool
@@ -58,9 +56,9 @@ fn need_of(first: Label, later: Label, i: u8) -> Label
 }
 
 // Rules 11 to 15 of record `i`, which is to have `need`, whose label is `x` and whose edges are `es`, in a graph of `n` records, with the
-// ancestors of each of so many roles and the table of sources.
+// masks of so many roles and the table of sources.
 fn test_node(
-    a: [u16; 16],
+    m: &[u16; 32],
     roles: u8,
     cs: &[u8],
     src: &[u64; MOST_ENTRIES as usize],
@@ -72,7 +70,7 @@ fn test_node(
     es: &[u8],
     f: Layout,
 ) -> Tested
-    ensures { λ r. ⌜ refusalOf r ≡ refuse i (nodeWith a roles (now (cs .entry)) (now (src .entry)) (valueOf need) (labelOf f (now (s .entry))) n (valueOf x) (now (es .entry))) none ⌝ }
+    ensures { λ r. ⌜ refusalOf r ≡ refuse i (nodeWith (now (m .entry)) roles (now (cs .entry)) (now (src .entry)) (valueOf need) (labelOf f (now (s .entry))) n (valueOf x) (now (es .entry))) none ⌝ }
 {
     if !label_ok(cs, x, need) {
         return Tested::Refused(11, i);
@@ -80,7 +78,7 @@ fn test_node(
     if !boths_ok(cs, x) {
         return Tested::Refused(12, i);
     }
-    if !edges_ok(es, a, roles, n) {
+    if !edges_ok(es, m, roles, n) {
         return Tested::Refused(13, i);
     }
     test_fillers(cs, src, s, i, x, es, f)
@@ -88,7 +86,7 @@ fn test_node(
 
 // The same, with the record read.
 fn test_record(
-    a: [u16; 16],
+    m: &[u16; 32],
     roles: u8,
     cs: &[u8],
     src: &[u64; MOST_ENTRIES as usize],
@@ -98,10 +96,10 @@ fn test_record(
     i: u8,
     f: Layout,
 ) -> Tested
-    ensures { λ r. ⌜ refusalOf r ≡ refuse i (recordWith a roles (now (cs .entry)) (now (src .entry)) (valueOf need) f (now (s .entry)) n i) none ⌝ }
+    ensures { λ r. ⌜ refusalOf r ≡ refuse i (recordWith (now (m .entry)) roles (now (cs .entry)) (now (src .entry)) (valueOf need) f (now (s .entry)) n i) none ⌝ }
 {
     test_node(
-        a,
+        m,
         roles,
         cs,
         src,
@@ -115,10 +113,9 @@ fn test_record(
     )
 }
 
-// Rules 11 to 15 of the `n` records; here and below, `t` has the records of so many roles, and `want` is wanted of record 0. Rule 13 goes over
-// the ancestors of all roles for each edge: they are read out of the records once.
+// Rules 11 to 15 of the `n` records; here and below, `m` has the masks of so many roles, and `want` is wanted of record 0.
 fn test_records(
-    t: [Role; 16],
+    m: &[u16; 32],
     roles: u8,
     cs: &[u8],
     qs: &[u8],
@@ -127,15 +124,14 @@ fn test_records(
     n: u8,
     f: Layout,
 ) -> Tested
-    ensures { λ r. ⌜ refusalOf r ≡ refuseFrom (recordCode t roles (now (cs .entry)) (now (qs .entry)) (valueOf want) f (now (s .entry)) n) n 0 none ⌝ }
+    ensures { λ r. ⌜ refusalOf r ≡ refuseFrom (recordCode (now (m .entry)) roles (now (cs .entry)) (now (qs .entry)) (valueOf want) f (now (s .entry)) n) n 0 none ⌝ }
 {
-    let a = ancestors_of(t);
-    let src = sources(t, cs);
+    let src = sources(m, cs);
     let first = required(qs, want);
     let later = required(qs, empty());
     let mut i: u8 = 0;
     while i < n {
-        let tested = test_record(a, roles, cs, &src, need_of(first, later, i), s, n, i, f);
+        let tested = test_record(m, roles, cs, &src, need_of(first, later, i), s, n, i, f);
         let Tested::Fine = tested else {
             return tested;
         };
@@ -145,32 +141,32 @@ fn test_records(
 }
 
 // Tests 10 to 15 of the `n` records.
-fn test_all(t: [Role; 16], roles: u8, cs: &[u8], qs: &[u8], want: Label, s: &[u8], n: u8) -> Tested
-    ensures { λ r. ⌜ refusalOf r ≡ recordsCode t roles (now (cs .entry)) (now (qs .entry)) (valueOf want) (now (s .entry)) n ⌝ }
+fn test_all(m: &[u16; 32], roles: u8, cs: &[u8], qs: &[u8], want: Label, s: &[u8], n: u8) -> Tested
+    ensures { λ r. ⌜ refusalOf r ≡ recordsCode (now (m .entry)) roles (now (cs .entry)) (now (qs .entry)) (valueOf want) (now (s .entry)) n ⌝ }
 {
     let f = layout_of(cs);
     let tested = test_forms(s, n, f);
     let Tested::Fine = tested else {
         return tested;
     };
-    test_records(t, roles, cs, qs, want, s, n, f)
+    test_records(m, roles, cs, qs, want, s, n, f)
 }
 
 // Tests 9 to 15 of the graph `s`, whose record 0 is to have `want`.
-pub fn test_graph(t: [Role; 16], roles: u8, cs: &[u8], qs: &[u8], want: Label, s: &[u8]) -> Tested
-    ensures { λ r. ⌜ refusalOf r ≡ graphCode t roles (now (cs .entry)) (now (qs .entry)) (valueOf want) (now (s .entry)) ⌝ }
+pub fn test_graph(m: &[u16; 32], roles: u8, cs: &[u8], qs: &[u8], want: Label, s: &[u8]) -> Tested
+    ensures { λ r. ⌜ refusalOf r ≡ graphCode (now (m .entry)) roles (now (cs .entry)) (now (qs .entry)) (valueOf want) (now (s .entry)) ⌝ }
 {
     let head = read_head(s);
     match head {
-        Head::GraphOf(n) => test_all(t, roles, cs, qs, want, s, n),
+        Head::GraphOf(n) => test_all(m, roles, cs, qs, want, s, n),
         Head::RefutationOf(_) => Tested::Refused(9, 0),
         Head::Off => Tested::Refused(9, 0),
     }
 }
 
 // The same for a plain question, which wants the root.
-pub fn test_sample(t: [Role; 16], roles: u8, cs: &[u8], qs: &[u8], s: &[u8]) -> Tested
-    ensures { λ r. ⌜ refusalOf r ≡ graphCode t roles (now (cs .entry)) (now (qs .entry)) (rootSet (now (qs .entry))) (now (s .entry)) ⌝ }
+pub fn test_sample(m: &[u16; 32], roles: u8, cs: &[u8], qs: &[u8], s: &[u8]) -> Tested
+    ensures { λ r. ⌜ refusalOf r ≡ graphCode (now (m .entry)) roles (now (cs .entry)) (now (qs .entry)) (rootSet (now (qs .entry))) (now (s .entry)) ⌝ }
 {
-    test_graph(t, roles, cs, qs, root_set(qs), s)
+    test_graph(m, roles, cs, qs, root_set(qs), s)
 }

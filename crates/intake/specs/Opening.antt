@@ -1,18 +1,18 @@
--- A description opened: the answer of tests 1 to 8, and the role records that the whole checker reads (02, job 4).
+-- A description opened: the answer of tests 1 to 8, and what the checker reads of the role records (02, job 4).
 use Prim.Native.Nat.{ℕ}
 use mathlib.Core.Path.{_≡_, refl}
 use mathlib.Core.List.{List}
 use mathlib.Core.Option.{Option, none, some, Option·none-ne-some}
 use Rattle.logic.specs.Refusals.{unless↔}
 use Rattle.roles.specs.Ancestors.{roleCount}
-use Rattle.roles.specs.Records.{roleTable}
+use Rattle.roles.specs.Records.{MasksOf}
 use Rattle.answers.specs.Answers.{refusalOf, wholly}
 use Rattle.intake.specs.declared.Opening.{Opening}
 use Rattle.intake.specs.Intake.{directoryTest, rolesPart, conceptsPart, queryPart, partsTest, bytesTest}
 
 pub record Opens (d : List ℕ) (o : Opening) : Type 0 where
   pub tested : refusalOf (o .tested) ≡ wholly (bytesTest d)
-  pub roles : o .roles ≡ roleTable (rolesPart d)
+  pub masks : MasksOf (rolesPart d) (o .masks)
   pub count : o .count ≡ roleCount (rolesPart d)
 
 -- nothing refuses the description, and so nothing refuses its parts

@@ -11,7 +11,7 @@ use Rattle.roles.specs.Records.{roleTable}
 use Rattle.roles.specs.declared.Role.{Role}
 use Rattle.answers.specs.declared.Tested.the-variants.{Fine, Refused}
 use Rattle.answers.specs.Answers.{refusalOf, wholly}
-use Rattle.intake.specs.Intake.{directoryTest, rolesPart, conceptsPart, queryPart, sizesTest, partsTest, bytesTest}
+use Rattle.intake.specs.Intake.{directoryTest, rolesPart, conceptsPart, queryPart, sizesTest, bytesTest}
 use Rattle.intake.specs.Steps.{rolesCode, entriesCode, simplesCode, distinctsCode, everysCode, queryCode, laterTest, stepsTest, steps-are}
 
 module _ (cs qs : List ℕ) (t : List Role) (n : ℕ) where

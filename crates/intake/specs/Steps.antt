@@ -1,26 +1,25 @@
--- The tests of single items as the code makes them, on bytes and masks, and that in their order they are the tests of the description.
+-- The tests of single items as the code makes them, on bytes and role records, and that in their order they are the tests of the description.
 use Prim.Native.Nat.{ℕ, zero, suc, _+_, _-_, _*_, _/_, _%_, _≤_, _<_}
 use mathlib.Core.Path.{_≡_, refl, sym, _∙_, ap, subst}
-use mathlib.Core.Bool.{Bool, true, false, not, _&&_}
+use mathlib.Core.Bool.{Bool, true, false, not, _&&_, _||_}
 use mathlib.Core.List.{List}
 use mathlib.Core.Option.{Option, none}
 use native.Mathlib.Omega.{arith}
 use native.Mathlib.Nat.{mod-eq-of-lt}
 use native.Mathlib.Numerals.{add-one}
+use borrow.Author.Tests.{le-ltb, le-leb, eq-eqb}
 use lib.Dec.{eqb, leb, ltb}
 use lib.ListN.{length}
-use Rattle.logic.specs.Tests.{not-and, So, _⇒_, so-and, and-l, and-r, so-ltb, ltb-so, same-test}
+use Rattle.logic.specs.Tests.{not-and, So, _⇒_, so-and, and-l, and-r, so-ltb, ltb-so, so-leb, so-false, same-test}
 use Rattle.logic.specs.Bounded.{allBelow, all-intro, all-elim, all-cong}
 use Rattle.logic.specs.Sets.{narrow}
 use Rattle.logic.specs.Refusals.{unless, unless-then}
 use Rattle.parts.specs.Numbers.{byteAt, num2, upTo, up-to-all}
-use Rattle.description.specs.Literals.{Literal, literal, code, entryOf, code-literal, code-entry}
-use Rattle.description.specs.Descriptions.{Entry, top, name, both, every, atLeast, Description, Fields, fieldsOf, entryOfFields, entry-back, sameFields, sameFields↔, sameEntry, compound, ifEvery, ifLeast}
+use Rattle.description.specs.Literals.{literal, code, entryOf, code-literal, code-entry}
+use Rattle.description.specs.Descriptions.{Entry, top, name, both, every, atLeast, Description, Fields, fieldsOf, entryFrom, entryOfFields, entry-back, sameFields, sameFields↔, sameEntry, compound, ifEvery, ifLeast}
 use Rattle.description.specs.Acceptance.{entryTest, simpleTest, distinctTest, everyBelowTest, literalTest, entriesTest, simplesTest, distinctsTest, everysTest, queryTest, descriptionTests, entry↔, EntryOk}
 use Rattle.labels.specs.Labels.{mostEntries}
-use Rattle.tables.specs.Concepts.{fieldsStruct, conceptOf, conceptAt}
-use Rattle.tables.specs.declared.Concept.{Concept}
-use Rattle.tables.specs.declared.Concept.the-variants.{Top, Name, Both, Every, AtLeast}
+use Rattle.tables.specs.Concepts.{fieldsStruct, fieldsIn}
 use Rattle.tables.specs.declared.Fields as Code
 use Rattle.tables.specs.Tables.{entryCount, fieldsAt, describe, fieldsTest, fields↔}
 use Rattle.roles.specs.Ancestors.{roleCount}
@@ -101,9 +100,10 @@ module _ (rs cs qs : List ℕ) (t : List Role) (tab : t ≡ roleTable rs) (few :
   simple-is e (both c d) o = refl
   simple-is e (every r l) o = refl
 
-  pub every-is : (e : ℕ) (x : Entry) → e < n → EntryOk D e x → ifEvery (λ r l. allThere cs (belowIn t (upTo 16 (roleCount rs)) r) (code l)) x ≡ everyBelowTest D x
+  pub every-is : (e : ℕ) (x : Entry) → e < n → EntryOk D e x → ifEvery (λ r l. allThere cs (belowIn t (upTo 16 (roleCount rs)) (r % 16)) (code l)) x ≡ everyBelowTest D x
   unfolding ifEvery
-  every-is e (every r l) h o = every-there-is rs cs qs t tab few small r l (omega (arith, o .0)) (let z = code-entry l e .1 (o .1) in omega (arith, z))
+  every-is e (every r l) h o = let k : r < 16 = omega (arith, o .0) in
+      rw (mod-eq-of-lt k) (every-there-is rs cs qs t tab few small r l k (let z = code-entry l e .1 (o .1) in omega (arith, z)))
   every-is e top h o = refl
   every-is e name h o = refl
   every-is e (both c d) h o = refl
@@ -188,46 +188,40 @@ steps-are rs cs qs t tab = unless-then (sizesTest rs cs qs) (sizesTest rs cs qs)
     n = length cs / 6
 
 -- ---- laws for the code
--- a test of the "at least" concepts, and of the "every" concepts, as the code's match has it
-abbrev pub ofLeast : (ℕ → Bool) → Concept → Bool
-ofLeast p Top = true
-ofLeast p Name = true
-ofLeast p (Both a b) = true
-ofLeast p (Every r l) = true
-ofLeast p (AtLeast m) = p (m .role .0)
-
-abbrev pub ofEvery : (ℕ → ℕ → Bool) → Concept → Bool
-ofEvery p Top = true
-ofEvery p Name = true
-ofEvery p (Both a b) = true
-ofEvery p (Every r l) = p (r .0) l
-ofEvery p (AtLeast m) = true
-
-of-least : (p : ℕ → Bool) (x : Entry) → ofLeast p (conceptOf x) ≡ ifLeast (λ r l n. p r) x
-unfolding conceptOf ifLeast
-of-least p top = refl
-of-least p name = refl
-of-least p (both a b) = refl
-of-least p (every r l) = refl
-of-least p (atLeast r l n) = refl
-
-of-every : (p : ℕ → ℕ → Bool) (x : Entry) → ofEvery p (conceptOf x) ≡ ifEvery (λ r l. p r (code l)) x
-unfolding conceptOf ifEvery
-of-every p top = refl
-of-every p name = refl
-of-every p (both a b) = refl
-of-every p (every r l) = refl
-of-every p (atLeast r l n) = refl
-
 -- fields that the code has read
 module _ (cs : List ℕ) where
-  pub twin-read : (f e : ℕ) (a b : Code.Fields) → a ≡ fieldsStruct cs e → b ≡ fieldsStruct cs f
-      → (leb 2 (a .kind) && (eqb (a .kind) (b .kind) && (eqb (a .role) (b .role) && (eqb (a .first) (b .first) && (eqb (a .second) (b .second) && eqb (a .number) (b .number)))))) ≡ twinAt cs f e
-  twin-read f e a b p q = rw (p, q) refl
+  least-by-kind : (p : ℕ → Bool) (k r a b n : ℕ) → (ltb k 4 || p r) ≡ ifLeast (λ r l n. p r) (entryFrom k r a b n)
+  unfolding entryFrom ifLeast
+  least-by-kind p zero r a b n = refl
+  least-by-kind p (suc zero) r a b n = refl
+  least-by-kind p (suc (suc zero)) r a b n = refl
+  least-by-kind p (suc (suc (suc zero))) r a b n = refl
+  least-by-kind p (suc (suc (suc (suc k)))) r a b n = rw (le-ltb (suc (suc (suc (suc k)))) 4 (omega arith)) refl
 
-  -- a test of one kind, on the concept that the code has read
-  pub least-read : (p : ℕ → Bool) (e : ℕ) (c : Concept) → c ≡ conceptAt cs e → ofLeast p c ≡ ifLeast (λ r l n. p r) (entryOfFields (fieldsAt cs e))
-  least-read p e c q = ap (ofLeast p) q ∙ of-least p (entryOfFields (fieldsAt cs e))
+  pub simple-read : (t : List Role) (e : ℕ) (g : Code.Fields) → g ≡ fieldsStruct cs e → (ltb (g .kind) 4 || roleAt t (g .role % 16) .simple) ≡ simpleAt cs t e
+  simple-read t e g q = let F = fieldsAt cs e in rw q (least-by-kind (λ r. roleAt t (r % 16) .simple) (F .kind) (F .role) (F .first) (F .second) (F .number))
 
-  pub every-kind-read : (p : ℕ → ℕ → Bool) (e : ℕ) (c : Concept) → c ≡ conceptAt cs e → ofEvery p c ≡ ifEvery (λ r l. p r (code l)) (entryOfFields (fieldsAt cs e))
-  every-kind-read p e c q = ap (ofEvery p) q ∙ of-every p (entryOfFields (fieldsAt cs e))
+  module _ (e : ℕ) (a b : Code.Fields) (p : a ≡ fieldsStruct cs e) where
+    pub other-role : (a .role ≡ b .role → ⊥) → false ≡ sameFields (fieldsAt cs e) (fieldsIn b)
+    other-role n = sym (so-false (sameFields (fieldsAt cs e) (fieldsIn b)) (λ u. n (ap (λ a. a .role) p ∙ ap (λ F. F .role) (sameFields↔ (fieldsAt cs e) (fieldsIn b) .0 u))))
+
+    pub other-first : (a .first ≡ b .first → ⊥) → false ≡ sameFields (fieldsAt cs e) (fieldsIn b)
+    other-first n = sym (so-false (sameFields (fieldsAt cs e) (fieldsIn b)) (λ u. n (ap (λ a. a .first) p ∙ ap (λ F. F .first) (sameFields↔ (fieldsAt cs e) (fieldsIn b) .0 u))))
+
+    pub twin-read : a .role ≡ b .role → a .first ≡ b .first
+        → (eqb (a .kind) (b .kind) && (eqb (a .second) (b .second) && eqb (a .number) (b .number))) ≡ sameFields (fieldsAt cs e) (fieldsIn b)
+    twin-read r f = ap (λ t. eqb (a .kind) (b .kind) && t) (sym (ap (λ t. t && (eqb (a .first) (b .first) && (eqb (a .second) (b .second) && eqb (a .number) (b .number)))) (eq-eqb (a .role) (b .role) r)
+        ∙ ap (λ t. t && (eqb (a .second) (b .second) && eqb (a .number) (b .number))) (eq-eqb (a .first) (b .first) f))) ∙ rw p refl
+
+  -- a twin of entry f has its kind
+  module _ (f : ℕ) (b : Code.Fields) (q : b ≡ fieldsStruct cs f) where
+    pub twins-here : 2 ≤ b .kind → allBelow f (λ e. not (sameFields (fieldsAt cs e) (fieldsIn b))) ≡ allBelow f (λ e. not (twinAt cs f e))
+    twins-here h = all-cong f _ _ (λ e _. ap not (ap (λ b. sameFields (fieldsAt cs e) (fieldsIn b)) q ∙ same-test _ _
+        (λ u. so-and (leb 2 (fieldsAt cs e .kind)) (sameFields (fieldsAt cs e) (fieldsAt cs f)) (le-leb 2 (fieldsAt cs e .kind) (
+        let z = ap (λ F. F .kind) (sameFields↔ (fieldsAt cs e) (fieldsAt cs f) .0 u) in let w = ap (λ g. g .kind) q in omega arith)) u)
+        (λ u. and-r (leb 2 (fieldsAt cs e .kind)) _ u)))
+
+    pub no-twin : b .kind < 2 → true ≡ allBelow f (λ e. not (twinAt cs f e))
+    no-twin h = sym (all-intro f (λ e. not (twinAt cs f e)) (λ e _. ap not (so-false (twinAt cs f e) (λ u.
+        let z = ap (λ F. F .kind) (sameFields↔ (fieldsAt cs e) (fieldsAt cs f) .0 (and-r (leb 2 (fieldsAt cs e .kind)) _ u)) in
+        let w = ap (λ g. g .kind) q in let v = so-leb 2 (fieldsAt cs e .kind) (and-l (leb 2 (fieldsAt cs e .kind)) _ u) in omega arith))))

@@ -10,15 +10,13 @@ ghost use Rattle.parts.specs.Numbers.{upTo};
 ghost use Rattle.words.specs.Words.{putIn};
 ghost use Rattle.tables.specs.Tables.{entryCount};
 ghost use Rattle.roles.specs.Records.{roleAt};
-ghost use Rattle.intake.specs.Everys.{belowIs, belowIn, everyPut, everysIn, everyWith, everyAt};
+ghost use Rattle.intake.specs.Everys.{belowIs, belowIn, LowerOf, everyPut, everysIn, everyBy, everyAt};
 use parts::up_to;
 use roles::Role;
 use roles::has16;
-use tables::Concept;
 use tables::EntryNo;
 use tables::Fields;
 use tables::RoleNo;
-use tables::concept_at;
 use tables::entry_count;
 use tables::fields_at;
 
@@ -85,18 +83,31 @@ fn within16(x: u16, y: u16) -> bool
     x & y == x
 }
 
-// Test 7 of one entry, with the table `held` of `everys_of`.
-fn every_ok(cs: &[u8], t: [Role; 16], n: u8, held: &[u16; 128], e: EntryNo) -> bool
+// For each role, the transitive roles that are included in it, of the first `n` records.
+fn lower_roles(t: [Role; 16], n: u8) -> [u16; 16]
     requires { ⌜ n ≤ 16 ⌝ }
-    ensures { λ q. ⌜ q ≡ everyWith (now (cs .entry)) t n (now (held .entry)) (e .0) ⌝ }
+    ensures { λ q. ⌜ LowerOf t n q ⌝ }
 {
-    let c = concept_at(cs, e);
-    match c {
-        Concept::Every(r, l) => within16(below(t, n, r), held[(l % 128) as usize]),
-        Concept::Top => true,
-        Concept::Name => true,
-        Concept::Both(_, _) => true,
-        Concept::AtLeast(_) => true,
+    let mut out: [u16; 16] = [0; 16];
+    let mut r: u8 = 0;
+    while r < 16 {
+        out[r as usize] = below(t, n, RoleNo(r));
+        r += 1;
+    }
+    out
+}
+
+// Test 7 of the entry with the fields `g`, with the tables of `lower_roles` and `everys_of`.
+fn every_ok(g: Fields, lower: &[u16; 16], held: &[u16; 128]) -> bool
+    ensures { λ q. ⌜ q ≡ everyBy g (now (lower .entry)) (now (held .entry)) ⌝ }
+{
+    if g.kind == 3 {
+        within16(
+            lower[(g.role % 16) as usize],
+            held[(g.first % 128) as usize],
+        )
+    } else {
+        true
     }
 }
 
@@ -104,8 +115,9 @@ fn every_ok(cs: &[u8], t: [Role; 16], n: u8, held: &[u16; 128], e: EntryNo) -> b
 pub fn every_at(cs: &[u8], t: [Role; 16], n: u8, e: EntryNo) -> bool
     ensures { λ q. ⌜ q ≡ everyAt (now (cs .entry)) t (upTo 16 n) (e .0) ⌝ }
 {
+    let lower = lower_roles(t, up_to(16, n as usize));
     let held = everys_of(cs);
-    every_ok(cs, t, up_to(16, n as usize), &held, e)
+    every_ok(fields_at(cs, e), &lower, &held)
 }
 
 // Whether one of the first `n` roles is transitive.
@@ -129,11 +141,12 @@ fn all_ok(cs: &[u8], t: [Role; 16], n: u8) -> bool
     requires { ⌜ n ≤ 16 ⌝ }
     ensures { λ q. ⌜ q ≡ allBelow (entryCount (now (cs .entry))) (everyAt (now (cs .entry)) t n) ⌝ }
 {
+    let lower = lower_roles(t, n);
     let held = everys_of(cs);
     let m = entry_count(cs);
     let mut e: u8 = 0;
     while e < m {
-        if !every_ok(cs, t, n, &held, EntryNo(e)) {
+        if !every_ok(fields_at(cs, EntryNo(e)), &lower, &held) {
             return false;
         }
         e += 1;

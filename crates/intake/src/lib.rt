@@ -1,17 +1,19 @@
-// Tests 1 to 8 of a description, and the records of its roles.
+// Tests 1 to 8 of a description, and the masks that evidence asks of its role records.
 pub mod everys;
 
 ghost use mathlib.Core.Path.{_≡_};
-ghost use mathlib.Core.Bool.{not, _&&_};
+ghost use mathlib.Core.Bool.{not, _&&_, _||_};
 ghost use Prim.Native.Nat.{_+_, _*_, _/_, _%_, _≤_};
 ghost use lib.Dec.{eqb, leb, ltb};
 ghost use lib.ListN.{length};
 ghost use Rattle.logic.specs.Bounded.{allBelow};
 ghost use Rattle.logic.specs.Sets.{narrow};
 ghost use Rattle.parts.specs.Numbers.{byteAt, num2, upTo};
+ghost use Rattle.description.specs.Descriptions.{sameFields};
+ghost use Rattle.tables.specs.Concepts.{fieldsIn};
 ghost use Rattle.tables.specs.Tables.{entryCount, fieldsAt, fieldsTest};
 ghost use Rattle.labels.specs.Labels.{mostEntries};
-ghost use Rattle.roles.specs.Records.{roleAt, roleTable};
+ghost use Rattle.roles.specs.Records.{roleTable};
 ghost use Rattle.answers.specs.Answers.{refusalOf, wholly};
 ghost use Rattle.intake.specs.Intake.{directoryTest, rolesPart, conceptsPart, queryPart, sizesTest, bytesTest};
 ghost use Rattle.intake.specs.Steps.{laterTest, stepsTest, roleKept, simpleAt, twinAt};
@@ -26,11 +28,11 @@ use parts::part;
 use roles::Role;
 use roles::fits16;
 use roles::role_count;
+use roles::role_masks;
 use roles::role_table;
-use tables::Concept;
 use tables::EntryNo;
+use tables::Fields;
 use tables::RoleNo;
-use tables::concept_at;
 use tables::entry_count;
 use tables::entry_ok;
 use tables::fields_at;
@@ -100,39 +102,32 @@ fn entries_ok(cs: &[u8], roles: usize) -> bool
     true
 }
 
-// Whether the record of role `r` says that it is simple.
-fn is_simple(t: [Role; 16], r: RoleNo) -> bool
-    ensures { λ q. ⌜ q ≡ roleAt t (r .0 % 16) .simple ⌝ }
+// Test 5 of the entry with the fields `g`, by the record of its role.
+fn counts_simple(g: Fields, x: Role) -> bool
+    ensures { λ r. ⌜ r ≡ (ltb (g .kind) 4 || x .simple) ⌝ }
 {
-    let x = t[(r.0 % 16) as usize];
-    x.simple
+    (g.kind < 4) | x.simple
 }
 
 // Test 5 of one entry.
 pub fn simple_ok(cs: &[u8], e: EntryNo, t: [Role; 16]) -> bool
     ensures { λ r. ⌜ r ≡ simpleAt (now (cs .entry)) t (e .0) ⌝ }
 {
-    let c = concept_at(cs, e);
-    match c {
-        Concept::AtLeast(m) => {
-            let role = m.role;
-            is_simple(t, role)
-        }
-        Concept::Top => true,
-        Concept::Name => true,
-        Concept::Both(_, _) => true,
-        Concept::Every(_, _) => true,
-    }
+    let g = fields_at(cs, e);
+    let x = t[(g.role % 16) as usize];
+    counts_simple(g, x)
 }
 
-// Test 5.
+// Test 5. One record is read for each entry: the table would be copied for a call of `simple_ok`.
 pub fn simples_ok(cs: &[u8], t: [Role; 16]) -> bool
     ensures { λ r. ⌜ r ≡ allBelow (entryCount (now (cs .entry))) (simpleAt (now (cs .entry)) t) ⌝ }
 {
     let n = entry_count(cs);
     let mut e: u8 = 0;
     while e < n {
-        if !simple_ok(cs, EntryNo(e), t) {
+        let g = fields_at(cs, EntryNo(e));
+        let x = t[(g.role % 16) as usize];
+        if !counts_simple(g, x) {
             return false;
         }
         e += 1;
@@ -140,26 +135,32 @@ pub fn simples_ok(cs: &[u8], t: [Role; 16]) -> bool
     true
 }
 
-// Whether entry `f` has all fields as entry `e` of kinds 2 to 4.
-fn twin(cs: &[u8], f: EntryNo, e: EntryNo) -> bool
-    ensures { λ r. ⌜ r ≡ twinAt (now (cs .entry)) (f .0) (e .0) ⌝ }
+// Whether entry `e` has the fields `b`. Most entries differ in the role or in the first literal: the rest is then not read.
+fn is_twin(cs: &[u8], e: EntryNo, b: Fields) -> bool
+    ensures { λ r. ⌜ r ≡ sameFields (fieldsAt (now (cs .entry)) (e .0)) (fieldsIn b) ⌝ }
 {
     let a = fields_at(cs, e);
-    let b = fields_at(cs, f);
-    (2 <= a.kind)
-        & ((a.kind == b.kind)
-            & ((a.role == b.role)
-                & ((a.first == b.first) & ((a.second == b.second) & (a.number == b.number)))))
+    if a.role != b.role {
+        return false;
+    }
+    if a.first != b.first {
+        return false;
+    }
+    (a.kind == b.kind) & ((a.second == b.second) & (a.number == b.number))
 }
 
-// Test 6 of entry `f`, against the earlier ones.
+// Test 6 of entry `f`, against the earlier ones. Kinds 0 and 1 may be there twice.
 pub fn distinct_ok(cs: &[u8], f: EntryNo) -> bool
     ensures { λ r. ⌜ r ≡ allBelow (f .0) (λ e. not (twinAt (now (cs .entry)) (f .0) e)) ⌝ }
 {
+    let b = fields_at(cs, f);
+    if b.kind < 2 {
+        return true;
+    }
     let n = f.0;
     let mut e: u8 = 0;
     while e < n {
-        if twin(cs, f, EntryNo(e)) {
+        if is_twin(cs, EntryNo(e), b) {
             return false;
         }
         e += 1;
@@ -251,10 +252,11 @@ fn test_bytes(d: &[u8], t: [Role; 16]) -> Tested
     test_parts(roles_part(d), concepts_part(d), query_part(d), t)
 }
 
-// A description that has been opened: what tests 1 to 8 say of it, the records of its roles, and how many roles it has.
+// A description that has been opened: what tests 1 to 8 say of it, what evidence asks of the records of its roles, and how many roles it
+// has. The records themselves stay here: they would be copied for each call of the checker.
 pub struct Opening {
     pub tested: Tested,
-    pub roles: [Role; 16],
+    pub masks: [u16; 32],
     pub count: u8,
 }
 
@@ -264,9 +266,10 @@ pub fn open_description(d: &[u8]) -> Opening
 {
     let rs = roles_part(d);
     let t = role_table(rs);
+    let m = role_masks(t);
     Opening {
         tested: test_bytes(d, t),
-        roles: t,
+        masks: m,
         count: role_count(rs),
     }
 }

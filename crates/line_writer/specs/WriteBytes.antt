@@ -8,7 +8,6 @@ use native.Mathlib.Omega.{arith}
 use native.Mathlib.Decide.{decLt, decLe}
 use native.Mathlib.Nat.{div-add-mod', div-lt-iff-lt-mul, mod-lt, mul-comm, mul-le-mul}
 use borrow.Author.Tests.{le-leb, lt-leb, lt-ltb, le-ltb}
-use lib.Dec.{eqb}
 use lib.ListN.{length, drop, getD, set}
 use Rattle.logic.specs.Tests.{So}
 use Rattle.logic.specs.Sets.{has, setOf}
@@ -19,9 +18,8 @@ use Rattle.description.specs.Descriptions.{Description, isName, wanted}
 use Rattle.description.specs.Roles.{ancestor}
 use Rattle.description.specs.Acceptance.{Accepted}
 use Rattle.tables.specs.Tables.{describe}
-use Rattle.roles.specs.Ancestors.{roleCount, ancestor-masks}
-use Rattle.roles.specs.Records.{roleAt, roleTable, ancestorsIn, table-ancestors, table-bytes}
-use Rattle.roles.specs.declared.Role.{Role}
+use Rattle.roles.specs.Ancestors.{roleCount}
+use Rattle.roles.specs.Records.{MasksOf, masks-above, masks-transitive}
 use Rattle.labels.specs.Labels.{mostEntries, nameBytes, namesIn, mask-some}
 use Rattle.evidence.specs.declared.Layout.{Layout}
 use Rattle.evidence.specs.Evidence.{recordCount, layoutOf, HeadOk, recordAt, labelOf, edgesPart, graphIn, graph-size, NodeForm}
@@ -131,7 +129,7 @@ module _ (rs cs qs : List ℕ) (A : Accepted (describe rs cs qs)) (few : length 
     mask-is : (x y : ℕ) → x < d → y < d → maskAt b at d x y ≡ ownerMask (edgesPart f s (x / k)) (y / k) (y % k)
     mask-is x y hx hy = rows .numbers (x * d + y) (pair-below d x y hx hy) ∙ rw (pair-row d x y hy, pair-column d x y hy) refl
 
-    -- the mask of the transitive roles, and the table of ancestors
+    -- the mask of the transitive roles, and the masks of the roles
     module _ (t : ℕ) (transitive : (r : ℕ) → So (has t r) ↔ ((r < D .roles) × So (D .transitive r)))
         (a : List ℕ) (ancestors : (r : ℕ) → r < D .roles → getD a r 0 ≡ setOf 16 (ancestor D r)) where
       closed-mask : (x y : ℕ) → x < d → y < d → closedMask b at d t a x y ≡ roleMask D (line D G) x y
@@ -179,25 +177,24 @@ module _ (rs cs qs : List ℕ) (A : Accepted (describe rs cs qs)) (few : length 
           beyond p h = outside p (rw size room) (λ l g. omega arith)
 
   -- so a buffer that the code has filled is the line, and then the old bytes
-  pub laid-line : (R : List Role) (old new : List ℕ) → R ≡ roleTable rs → lineLength w d ≤ length old
-      → LaidLine (transitivesIn R (roleCount rs)) cs f s (ancestorsIn R) k d old new → new ≡ lineBytes D (line D G) ++ drop (lineLength w d) old
+  pub laid-line : (a old new : List ℕ) → MasksOf rs a → lineLength w d ≤ length old
+      → LaidLine (transitivesIn a (roleCount rs)) cs f s a k d old new → new ≡ lineBytes D (line D G) ++ drop (lineLength w d) old
   unfolding transitivesIn
-  laid-line R old new tab room L = line-written (L .direct) (L .named) (L .rows) (transitivesIn R (roleCount rs)) transitive (ancestorsIn R)
-      (λ r h. ancestor-masks rs cs qs (ancestorsIn R) (table-ancestors rs R tab) few r (omega arith)) old new
+  laid-line a old new masks room L = line-written (L .direct) (L .named) (L .rows) (transitivesIn a (roleCount rs)) transitive a
+      (λ r h. masks-above rs a masks r (omega arith) cs qs few) old new
       (L .rows .whole ∙ L .names .whole ∙ L .count .whole) room
       (L .rows .others 0 (inl (omega arith)) ∙ L .names .others 0 (inl (omega arith)) ∙ L .count .numbers 0 (omega arith))
       name-byte
       (λ p h. L .rows .others p (inr h) ∙ L .names .others p (inr (omega arith)) ∙ L .count .others p (inr (omega arith)))
       (L .size) (L .bytes)
     where
-      transitive : (r : ℕ) → So (has (transitivesIn R (roleCount rs)) r) ↔ ((r < D .roles) × So (D .transitive r))
+      transitive : (r : ℕ) → So (has (transitivesIn a (roleCount rs)) r) ↔ ((r < D .roles) × So (D .transitive r))
       transitive r = rw (
         up-to-all 16 (length rs / 3) few,
         up-to-all 16 (length rs / 3) few,
-        setOf-cong (length rs / 3) (λ r. eqb (roleAt R r .transitive) 1) (λ r. eqb (byteAt rs (3 * r)) 1)
-            (λ i h. ap (λ b. eqb b 1) (table-bytes rs R tab i (omega arith))),
+        setOf-cong (length rs / 3) (λ r. has (getD a (16 + r) 0) r) (D .transitive) (λ i h. masks-transitive rs a masks i (omega arith) cs qs few),
       )
-          (setOf↔ (length rs / 3) (λ r. eqb (byteAt rs (3 * r)) 1) r)
+          (setOf↔ (length rs / 3) (D .transitive) r)
 
       -- name masks lie before the rows
       name-there : (z : ℕ) → z < d → namesIn (f .wide) (L .direct) (nameAt w z) ≡ elementNames cs f s k z

@@ -22,8 +22,7 @@ use Rattle.answers.specs.Answers.{answer, WRITTEN, wholly, ofWritten, lengthOf,
 use Rattle.description.specs.Descriptions.{Description, wanted}
 use Rattle.tables.specs.Tables.{describe}
 use Rattle.roles.specs.Ancestors.{roleCount}
-use Rattle.roles.specs.Records.{roleTable, ancestorsIn}
-use Rattle.roles.specs.declared.Role.{Role}
+use Rattle.roles.specs.Records.{MasksOf}
 use Rattle.intake.specs.Intake.{rolesPart, conceptsPart, queryPart, partsTest, parts-accepted, bytesTest, described}
 use Rattle.intake.specs.Opening.{wholly-none, parts-fine}
 use Rattle.nodes.specs.NodeSteps.{rootSet}
@@ -98,20 +97,20 @@ pub told-of : (t : ℕ) (cs : List ℕ) (f : Layout) (s a old new : List ℕ) (r
     → Told t cs f s a old new r (roomIn f s (length old)) → ToldOf t cs s a old new r
 told-of t cs f s a old new r e T = subst (λ g. Told t cs g s a old new r (roomIn g s (length old))) e T
 
--- ---- an opened description: 9 to 15 of the graph, then those, by the records R of m roles
-abbrev pub OpenedTold : List Role → ℕ → List ℕ → List ℕ → List ℕ → List ℕ → List ℕ → Written → Type 0
-OpenedTold R m cs qs s old new r = Told (transitivesIn R m) cs (layoutIn cs) s (ancestorsIn R) old new r
-    (firstOf (graphCode R m cs qs (rootSet qs) s) (roomIn (layoutIn cs) s (length old)))
+-- ---- an opened description: 9 to 15 of the graph, then those, by the masks a of m roles
+abbrev pub OpenedTold : List ℕ → ℕ → List ℕ → List ℕ → List ℕ → List ℕ → List ℕ → Written → Type 0
+OpenedTold a m cs qs s old new r = Told (transitivesIn a m) cs (layoutIn cs) s a old new r
+    (firstOf (graphCode a m cs qs (rootSet qs) s) (roomIn (layoutIn cs) s (length old)))
 
-module _ (R : List Role) (m : ℕ) (cs qs s old : List ℕ) where
-  pub graph-stops : (n i : ℕ) → some (record { number = n; place = i }) ≡ graphCode R m cs qs (rootSet qs) s → OpenedTold R m cs qs s old old (Refused n i)
+module _ (a : List ℕ) (m : ℕ) (cs qs s old : List ℕ) where
+  pub graph-stops : (n i : ℕ) → some (record { number = n; place = i }) ≡ graphCode a m cs qs (rootSet qs) s → OpenedTold a m cs qs s old old (Refused n i)
   graph-stops n i e = rw (← e) (record { says = refl; long = refl; after = refl })
 
-  pub graph-on : none ≡ graphCode R m cs qs (rootSet qs) s → (t : ℕ) (a new : List ℕ) (r : Written) → t ≡ transitivesIn R m → a ≡ ancestorsIn R
-      → ToldOf t cs s a old new r → OpenedTold R m cs qs s old new r
-  graph-on e t a new r p q T = rw (← e, ← p, ← q) T
+  pub graph-on : none ≡ graphCode a m cs qs (rootSet qs) s → (t : ℕ) (new : List ℕ) (r : Written) → t ≡ transitivesIn a m
+      → ToldOf t cs s a old new r → OpenedTold a m cs qs s old new r
+  graph-on e t new r p T = rw (← e, ← p) T
 
-  pub some-record : none ≡ graphCode R m cs qs (rootSet qs) s → 1 ≤ recordCount s
+  pub some-record : none ≡ graphCode a m cs qs (rootSet qs) s → 1 ≤ recordCount s
   unfolding graphCode
   some-record e = let k = refuse↔ 0 (unless (graphHead s) 9 none) _ .0 (sym e) .0 in
       head↔ s .0 (and-l (headTest s) _ (unless↔ (graphHead s) 9 none .0 k .0)) .1 .0
@@ -127,7 +126,7 @@ record Wrote (D : Description) (s old new : List ℕ) (r : Written) (o : Option 
   pub long : lengthOf r ≡ unlessRefused 0 (graphLength D s) o
   pub buffer : new ≡ buffered (lineBytes D (line D (graphIn (layoutOf D) s))) old o
 
-module _ (rs cs qs : List ℕ) (R : List Role) (s old : List ℕ) (tab : R ≡ roleTable rs) (fine : partsTest rs cs qs ≡ none) where
+module _ (rs cs qs : List ℕ) (a s old : List ℕ) (masks : MasksOf rs a) (fine : partsTest rs cs qs ≡ none) where
   abbrev D : Description
   D = describe rs cs qs
 
@@ -150,7 +149,7 @@ module _ (rs cs qs : List ℕ) (R : List Role) (s old : List ℕ) (tab : R ≡ r
     size-is : sizeIn f s ≡ line D (graphIn f s) .size
     size-is = rw (copies-is, graph-size f s) refl
 
-    line-wrote : (new : List ℕ) (r : Written) → ToldOf (transitivesIn R (roleCount rs)) cs s (ancestorsIn R) old new r → Wrote D s old new r (refuse 0 room none)
+    line-wrote : (new : List ℕ) (r : Written) → ToldOf (transitivesIn a (roleCount rs)) cs s a old new r → Wrote D s old new r (refuse 0 room none)
     line-wrote new r T = record {
       says = T .says ∙ ap (λ n. answer WRITTEN (refuse 0 (roomTest n (lineLength (nameSize D) n) (length old)) none)) size-is;
       long = T .long
@@ -162,21 +161,21 @@ module _ (rs cs qs : List ℕ) (R : List Role) (s old : List ℕ) (tab : R ≡ r
         lines : List ℕ
         lines = lineBytes D (line D (graphIn f s))
 
-        filled : (o : Option ℕ) → room ≡ o → After (transitivesIn R (roleCount rs)) cs f s (ancestorsIn R) old new (refuse 0 o none)
+        filled : (o : Option ℕ) → room ≡ o → After (transitivesIn a (roleCount rs)) cs f s a old new (refuse 0 o none)
             → new ≡ unlessRefused old (lines ++ drop (graphLength D s) old) (refuse 0 o none)
         filled none e L = let p = parts-accepted rs cs qs fine in let g = graph-kept in
             let enough = unless↔ (leb (line D (graphIn f s) .size) mostElements) 21 _ .0 e .1 in
-            laid-line rs cs qs (p .2) (p .0) (p .1) s (g .head) (g .formed) (g .keeps) R old new tab
+            laid-line rs cs qs (p .2) (p .0) (p .1) s (g .head) (g .formed) (g .keeps) a old new masks
             (so-leb (graphLength D s) (length old) (unless↔ (leb (graphLength D s) (length old)) 22 none .0 enough .0))
             (rw (size-is, copies-is) at L)
         filled (some n) e L = L
 
-  opened-wrote : (new : List ℕ) (r : Written) → OpenedTold R (roleCount rs) cs qs s old new r
+  opened-wrote : (new : List ℕ) (r : Written) → OpenedTold a (roleCount rs) cs qs s old new r
       → Wrote D s old new r (firstOf (graphTests D (wanted D) s) (refuse 0 room none))
-  opened-wrote new r T = go (graphTests D (wanted D) s) refl (rw (sample-is rs cs qs R s tab fine) at T)
+  opened-wrote new r T = go (graphTests D (wanted D) s) refl (rw (sample-is rs cs qs a s masks fine) at T)
     where
       go : (o : Option Refusal) → graphTests D (wanted D) s ≡ o
-          → Told (transitivesIn R (roleCount rs)) cs (layoutIn cs) s (ancestorsIn R) old new r (firstOf o (roomIn (layoutIn cs) s (length old)))
+          → Told (transitivesIn a (roleCount rs)) cs (layoutIn cs) s a old new r (firstOf o (roomIn (layoutIn cs) s (length old)))
           → Wrote D s old new r (firstOf o (refuse 0 room none))
       go none e T = line-wrote e new r T
       go (some z) e T = record { says = T .says; long = T .long; buffer = T .after }
@@ -191,9 +190,9 @@ module _ (d s old : List ℕ) where
   unfolding writeRefused graphRefused
   write-refused n i e = rw (refuse-some 0 (bytesTest d) (graphTests (described d) (wanted (described d)) s) _ (sym e)) (refl, (refl, refl))
 
-  pub write-opened : (R : List Role) (m : ℕ) (cs qs new : List ℕ) (r : Written) → none ≡ wholly (bytesTest d) → R ≡ roleTable (rolesPart d)
-      → m ≡ roleCount (rolesPart d) → cs ≡ conceptsPart d → qs ≡ queryPart d → OpenedTold R m cs qs s old new r → Writes new r
+  pub write-opened : (a : List ℕ) (m : ℕ) (cs qs new : List ℕ) (r : Written) → none ≡ wholly (bytesTest d) → MasksOf (rolesPart d) a
+      → m ≡ roleCount (rolesPart d) → cs ≡ conceptsPart d → qs ≡ queryPart d → OpenedTold a m cs qs s old new r → Writes new r
   unfolding writeRefused graphRefused
-  write-opened R m cs qs new r e tab k p q T = let fine = sym (wholly-none (bytesTest d) e) in
-      let w = opened-wrote (rolesPart d) (conceptsPart d) (queryPart d) R s old tab (parts-fine d fine) new r (rw (k, p, q) at T) in
+  write-opened a m cs qs new r e masks k p q T = let fine = sym (wholly-none (bytesTest d) e) in
+      let w = opened-wrote (rolesPart d) (conceptsPart d) (queryPart d) a s old masks (parts-fine d fine) new r (rw (k, p, q) at T) in
       rw fine (w .says, (w .long, w .buffer))

@@ -11,15 +11,13 @@ use native.Mathlib.Numerals.{add-one}
 use borrow.Author.Tests.{ne-eqb, lt-ltb, le-ltb}
 use lib.Dec.{eqb, ltb}
 use lib.Pow.{pow-mono}
-use lib.ListN.{length}
+use lib.ListN.{length, getD}
 use Rattle.logic.specs.Sets.{has, setOf}
 use Rattle.logic.specs.SetLaws.{setOf-lt}
 use Rattle.parts.specs.Numbers.{byteAt, num2, upTo}
 use Rattle.description.specs.Descriptions.{entryFrom, entryOfFields, isName}
 use Rattle.tables.specs.Tables.{fieldsAt}
 use Rattle.tables.specs.Tables.{entryCount}
-use Rattle.roles.specs.Records.{roleAt}
-use Rattle.roles.specs.declared.Role.{Role}
 use Rattle.labels.specs.Labels.{mostEntries, wide, nameBytes}
 use Rattle.evidence.specs.declared.Layout.{Layout}
 use Rattle.evidence.specs.Evidence.{labelOf, edgesPart}
@@ -37,9 +35,9 @@ namesOf cs N = setOf (entryCount cs) (nameIn cs N)
 abbrev pub elementNames : List ℕ → Layout → List ℕ → ℕ → ℕ → ℕ
 elementNames cs f s k z = namesOf cs (labelOf f s (z / k))
 
--- the transitive ones of m roles, by their records
-unfoldable pub transitivesIn : List Role → ℕ → ℕ
-transitivesIn t m = setOf (upTo 16 m) (λ r. eqb (roleAt t r .transitive) 1)
+-- the transitive ones of m roles, by their masks a
+unfoldable pub transitivesIn : List ℕ → ℕ → ℕ
+transitivesIn a m = setOf (upTo 16 m) (λ r. has (getD a (16 + r) 0) r)
 
 -- the direct pairs from a copy of a record with edges es, to element w
 abbrev pub rowMasks : List ℕ → ℕ → ℕ → ℕ
@@ -116,9 +114,9 @@ names-done cs N e n x p h g q = let b = setOf-lt e (nameIn cs N) in let z : e �
       | no l ↦ (let z : mostEntries ≤ length cs / 6 = omega arith in rw (le-ltb _ _ z) (omega arith, omega arith))
     ]
 
-pub transitives-done : (t : List Role) (m r n x : ℕ) → n ≡ upTo 16 m → n ≤ 16 → r ≤ n → n ≤ r → x ≡ setOf r (λ r. eqb (roleAt t r .transitive) 1)
-    → x % 65536 ≡ transitivesIn t m
+pub transitives-done : (a : List ℕ) (m r n x : ℕ) → n ≡ upTo 16 m → n ≤ 16 → r ≤ n → n ≤ r → x ≡ setOf r (λ r. has (getD a (16 + r) 0) r)
+    → x % 65536 ≡ transitivesIn a m
 unfolding transitivesIn
-transitives-done t m r n x p few h g q = let z : r ≡ upTo 16 m = (let y : r ≡ n = omega arith in y ∙ p) in
-    let b = setOf-lt r (λ r. eqb (roleAt t r .transitive) 1) in let w : 2 ^ r ≤ 2 ^ 16 = pow-mono (let y : r ≤ 16 = omega arith in y) in
-    mod-eq-of-lt (omega arith) ∙ q ∙ ap (λ k. setOf k (λ r. eqb (roleAt t r .transitive) 1)) z
+transitives-done a m r n x p few h g q = let z : r ≡ upTo 16 m = (let y : r ≡ n = omega arith in y ∙ p) in
+    let b = setOf-lt r (λ r. has (getD a (16 + r) 0) r) in let w : 2 ^ r ≤ 2 ^ 16 = pow-mono (let y : r ≤ 16 = omega arith in y) in
+    mod-eq-of-lt (omega arith) ∙ q ∙ ap (λ k. setOf k (λ r. has (getD a (16 + r) 0) r)) z

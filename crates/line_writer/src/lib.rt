@@ -3,8 +3,9 @@ ghost use mathlib.Core.Path.{_≡_};
 ghost use mathlib.Core.Bool.{cond, _&&_};
 ghost use Prim.Native.Nat.{_+_, _*_, _/_, _^_, _≤_, _<_};
 ghost use Rattle.labels.specs.Labels.{mostEntries, wide, nameBytes, valueOf};
-ghost use lib.Dec.{eqb, ltb};
+ghost use lib.Dec.{ltb};
 ghost use lib.ListN.{length};
+ghost use Rattle.logic.specs.Sets.{has};
 ghost use Rattle.words.specs.Words.{putIn};
 ghost use Rattle.answers.specs.Answers.{ofWritten, lengthOf};
 ghost use Rattle.lines.specs.Lines.{mostElements, nameAt, lineLength};
@@ -33,8 +34,7 @@ use labels::name_bytes;
 use lines::MOST_ELEMENTS;
 use parts::byte;
 use parts::up_to;
-use roles::Role;
-use roles::ancestors_of;
+use roles::has16;
 use tables::EntryNo;
 use tables::entry_count;
 use words::put;
@@ -146,23 +146,22 @@ fn lay_rows(buf: &mut [u8], at: usize, s: &[u8], d: u8, k: u8, f: Layout)
     }
 }
 
-// The mask with role `r`, if its record says that it is transitive.
-fn with_transitive(m: u64, x: Role, r: u8) -> u64
-    ensures { λ q. ⌜ q ≡ putIn m r (ltb r 64 && eqb (x .transitive) 1) ⌝ }
+// The mask with role `r`, if `carry`, what its edges carry on, holds it: if the role is transitive.
+fn with_transitive(m: u64, carry: u16, r: u8) -> u64
+    ensures { λ q. ⌜ q ≡ putIn m r (ltb r 64 && has carry r) ⌝ }
 {
-    put(m, r as usize, x.transitive == 1)
+    put(m, r as usize, has16(carry, r))
 }
 
 // The transitive ones of so many roles.
-fn transitive_roles(t: [Role; 16], roles: u8) -> u16
-    ensures { λ r. ⌜ r ≡ transitivesIn t roles ⌝ }
+fn transitive_roles(a: &[u16; 32], roles: u8) -> u16
+    ensures { λ r. ⌜ r ≡ transitivesIn (now (a .entry)) roles ⌝ }
 {
     let n = up_to(16, roles as usize);
     let mut out: u64 = 0;
     let mut r: u8 = 0;
     while r < n {
-        let x = t[r as usize];
-        out = with_transitive(out, x, r);
+        out = with_transitive(out, a[(16 + r) as usize], r);
         r += 1;
     }
     (out % 65536) as u16
@@ -176,10 +175,10 @@ fn rows_at(size: usize, broad: bool) -> usize
     1 + name_bytes(broad) * size
 }
 
-// The line of `d` elements, `k` copies of each record, with the transitive roles `t` and the ancestors `a` of each role.
-fn lay_line(buf: &mut [u8], t: u16, a: [u16; 16], cs: &[u8], s: &[u8], d: u8, k: u8, f: Layout)
+// The line of `d` elements, `k` copies of each record, with the transitive roles `t` and the masks `a` of the roles.
+fn lay_line(buf: &mut [u8], t: u16, a: &[u16; 32], cs: &[u8], s: &[u8], d: u8, k: u8, f: Layout)
     requires { ⌜ (1 ≤ k) × (lineLength (nameBytes (f .wide)) d ≤ length (now buf)) × (f .wide ≡ wide (length (now cs) / 6)) ⌝ }
-    ensures { λ _. ⌜ LaidLine t (now (cs .entry)) f (now (s .entry)) a k d (now (buf .entry)) (now (buf .exit)) ⌝ }
+    ensures { λ _. ⌜ LaidLine t (now (cs .entry)) f (now (s .entry)) (now (a .entry)) k d (now (buf .entry)) (now (buf .exit)) ⌝ }
 {
     let at = rows_at(d as usize, f.wide);
     buf[0] = d;
@@ -204,10 +203,10 @@ fn line_length(size: usize, broad: bool) -> usize
     rows_at(size, broad) + 2 * (size * size)
 }
 
-// 21, 22, and then the line, for a graph that keeps the rules, with the transitive roles `t` and the ancestors `a` of each role.
-fn write_kept(buf: &mut [u8], t: u16, a: [u16; 16], cs: &[u8], s: &[u8]) -> Written
+// 21, 22, and then the line, for a graph that keeps the rules, with the transitive roles `t` and the masks `a` of the roles.
+fn write_kept(buf: &mut [u8], t: u16, a: &[u16; 32], cs: &[u8], s: &[u8]) -> Written
     requires { ⌜ 1 ≤ recordCount (now s) ⌝ }
-    ensures { λ r. ⌜ ToldOf t (now (cs .entry)) (now (s .entry)) a (now (buf .entry)) (now (buf .exit)) r ⌝ }
+    ensures { λ r. ⌜ ToldOf t (now (cs .entry)) (now (s .entry)) (now (a .entry)) (now (buf .entry)) (now (buf .exit)) r ⌝ }
 {
     let f = layout_of(cs);
     let n = byte(s, 1);
@@ -224,13 +223,13 @@ fn write_kept(buf: &mut [u8], t: u16, a: [u16; 16], cs: &[u8], s: &[u8]) -> Writ
     Written::Line(len)
 }
 
-// Tests 9 to 15 of the graph, then the line, by the records of so many roles.
-fn write_opened(buf: &mut [u8], t: [Role; 16], roles: u8, cs: &[u8], qs: &[u8], s: &[u8]) -> Written
-    ensures { λ r. ⌜ OpenedTold t roles (now (cs .entry)) (now (qs .entry)) (now (s .entry)) (now (buf .entry)) (now (buf .exit)) r ⌝ }
+// Tests 9 to 15 of the graph, then the line, by the masks of so many roles.
+fn write_opened(buf: &mut [u8], a: &[u16; 32], roles: u8, cs: &[u8], qs: &[u8], s: &[u8]) -> Written
+    ensures { λ r. ⌜ OpenedTold (now (a .entry)) roles (now (cs .entry)) (now (qs .entry)) (now (s .entry)) (now (buf .entry)) (now (buf .exit)) r ⌝ }
 {
-    let tested = test_sample(t, roles, cs, qs, s);
+    let tested = test_sample(a, roles, cs, qs, s);
     match tested {
-        Tested::Fine => write_kept(buf, transitive_roles(t, roles), ancestors_of(t), cs, s),
+        Tested::Fine => write_kept(buf, transitive_roles(a, roles), a, cs, s),
         Tested::Refused(n, i) => Written::Refused(n, i),
     }
 }
@@ -243,9 +242,9 @@ pub fn write_interpretation(d: &[u8], s: &[u8], buf: &mut [u8]) -> Written
 {
     let o = open_description(d);
     let tested = o.tested;
-    let roles = o.roles;
+    let a = o.masks;
     match tested {
-        Tested::Fine => write_opened(buf, roles, o.count, concepts_part(d), query_part(d), s),
+        Tested::Fine => write_opened(buf, &a, o.count, concepts_part(d), query_part(d), s),
         Tested::Refused(n, i) => Written::Refused(n, i),
     }
 }

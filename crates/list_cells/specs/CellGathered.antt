@@ -17,7 +17,6 @@ use Rattle.description.specs.Literals.{opposite, code}
 use Rattle.description.specs.Descriptions.{entryOfFields}
 use Rattle.tables.specs.Tables.{fieldsAt}
 use Rattle.tables.specs.Tables.{entryCount}
-use Rattle.roles.specs.declared.Role.{Role}
 use Rattle.refutation.specs.Cells.{Row}
 use Rattle.cell_walk.specs.Walks.{rowGives, rolesIn}
 use Rattle.rows.specs.declared.Row as Held
@@ -32,7 +31,7 @@ only-has : (b : Bool) (n l : ℕ) → So (has (only b n) l) → So b × So (has 
 only-has true n l u = (refl, u)
 only-has false n l u = absurd (no-member l u)
 
-module _ (a : List Role) (rows : List Held.Row) (k : ℕ) (few : k ≤ 6) (above : List ℕ)
+module _ (a : List ℕ) (rows : List Held.Row) (k : ℕ) (few : k ≤ 6) (above : List ℕ)
     (B : Masks (λ i. aboveOf a (given (heldAt rows i))) k above) where
   abbrev row : ℕ → Row
   row i = given (heldAt rows i)

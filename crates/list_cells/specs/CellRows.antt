@@ -27,8 +27,6 @@ use Rattle.tables.specs.declared.Concept.{Concept}
 use Rattle.tables.specs.declared.Concept.the-variants.{Every}
 use Rattle.tables.specs.declared.RoleNo.{RoleNo}
 use Rattle.tables.specs.Tables.{entryCount}
-use Rattle.roles.specs.Records.{roleAt}
-use Rattle.roles.specs.declared.Role.{Role}
 use Rattle.fillers.specs.FillerSteps.{carried}
 use Rattle.refutation.specs.Cells.{Row}
 use Rattle.refutation.specs.RecordTests.{ifCited}
@@ -62,18 +60,18 @@ Labels = SixOf valueOf noLabel
 abbrev pub onlyIf : Bool → ℕ → ℕ
 onlyIf = only
 
--- the roles above its own, by the role records a, and the mask of its own, if that fits
-abbrev pub aboveOf : List Role → Row → ℕ
-aboveOf a R = roleAt a (R .role % 16) .ancestors
+-- the roles above its own, by the masks a of the roles, and the mask of its own, if that fits
+abbrev pub aboveOf : List ℕ → Row → ℕ
+aboveOf a R = getD a (R .role % 16) 0
 
 abbrev pub bitOf : Row → ℕ
 bitOf R = only (ltb (R .role) 16) (2 ^ R .role)
 
 -- it shows l of its own cells: its qualifier, or what an entry shows by its role alone
-abbrev pub showsOwn : List ℕ → List Role → ℕ → (ℕ → Bool) → Row → ℕ → Bool
+abbrev pub showsOwn : List ℕ → List ℕ → ℕ → (ℕ → Bool) → Row → ℕ → Bool
 showsOwn cs a N on R l = eqb (code (R .qualifier)) l || anyBelow (entryCount cs) (everyShows cs N on (has (aboveOf a R)) l)
 
-unfoldable pub shownBy : List ℕ → List Role → ℕ → (ℕ → Bool) → Row → ℕ
+unfoldable pub shownBy : List ℕ → List ℕ → ℕ → (ℕ → Bool) → Row → ℕ
 shownBy cs a N on R = setOf room (showsOwn cs a N on R)
 
 -- the literal that it shows of other cells that have its role
@@ -81,7 +79,7 @@ abbrev pub deniedBy : Row → ℕ
 deniedBy R = code (opposite (R .qualifier))
 
 -- row i shows l of its own cells by entry f; `above` has the roles above that of each row
-abbrev pub entryShows : List ℕ → List Role → ℕ → List ℕ → ℕ → ℕ → ℕ → Bool
+abbrev pub entryShows : List ℕ → List ℕ → ℕ → List ℕ → ℕ → ℕ → ℕ → Bool
 entryShows cs a N above f i l = everyShows cs N (carriedAt cs a N) (has (maskAt above i)) l f
 
 -- ---- what a cell has of the arrays
@@ -129,8 +127,8 @@ module _ (num : ℕ → ℕ) (M b : ℕ) where
   cell-cited x y e p q = rw (ne-eqb b 255 e, p, q) refl
 
 -- what a row shows of its own cells, put into a label
-pub shown-is : (cs : List ℕ) (a : List Role) (N : ℕ) (on : ℕ → Bool) (R : Held.Row) (T Q : ℕ) → T ≡ labelWith 0 (R .qualifier)
-    → Puts T Q (λ l. anyBelow (entryCount cs) (everyShows cs N on (has (roleAt a (R .role .0 % 16) .ancestors)) l)) → Q ≡ shownBy cs a N on (given R)
+pub shown-is : (cs a : List ℕ) (N : ℕ) (on : ℕ → Bool) (R : Held.Row) (T Q : ℕ) → T ≡ labelWith 0 (R .qualifier)
+    → Puts T Q (λ l. anyBelow (entryCount cs) (everyShows cs N on (has (getD a (R .role .0 % 16) 0)) l)) → Q ≡ shownBy cs a N on (given R)
 unfolding shownBy
 shown-is cs a N on R T Q e h = put-set T Q (code (literal (R .qualifier))) _ (rw (code-literal (R .qualifier)) e) h
 
@@ -256,17 +254,17 @@ pub put-told : (N M : ℕ) (b d : Bool) (p : ℕ → Bool) → b ≡ d → Puts 
 put-told N M b d p e h = subst (λ b. Puts N M (λ l. b && p l)) e h
 
 -- by an entry: x is the concept that is read
-module _ (cs : List ℕ) (a : List Role) (N : ℕ) (above : List ℕ) (f : ℕ) (old : List Label) (x v : Concept) (e : x ≡ conceptAt cs f) (q : x ≡ v) where
+module _ (cs a : List ℕ) (N : ℕ) (above : List ℕ) (f : ℕ) (old : List Label) (x v : Concept) (e : x ≡ conceptAt cs f) (q : x ≡ v) where
   pub grown-other : length old ≡ 6 → ((t : ℕ → ℕ → Bool) → everyOf t v ≡ false) → Grown old old (entryShows cs a N above f)
   grown-other s none = grown-nothing old (entryShows cs a N above f) s
       (λ i l. sym (every-read cs f x v e q (λ t k. passes N (carriedAt cs a N f) (has (maskAt above i) t) f k l)) ∙ none _)
 
-  pub grown-every : (new : List Label) (t : RoleNo) (l M : ℕ) → v ≡ Every t l → Puts 0 M (passes N (carried cs (roleAt a (t .0 % 16)) N l) true f l)
+  pub grown-every : (new : List Label) (t : RoleNo) (l M : ℕ) → v ≡ Every t l → Puts 0 M (passes N (carried cs a N (t .0) l) true f l)
       → Grown old new (λ i m. has (maskAt above i) (t .0) && has M m) → Grown old new (entryShows cs a N above f)
   grown-every new t l M u h g = record { size = g .size; at = λ i b m. g .at i b m ∙ ap (λ z. has (labelAt old i) m || z) (told i m) }
     where
-      onward : carried cs (roleAt a (t .0 % 16)) N l ≡ carriedAt cs a N f
-      onward = every-read cs f x (Every t l) e (q ∙ u) (λ t l. carried cs (roleAt a (t % 16)) N l)
+      onward : carried cs a N (t .0) l ≡ carriedAt cs a N f
+      onward = every-read cs f x (Every t l) e (q ∙ u) (carried cs a N)
 
       twice : (r b c : Bool) → (r && (b && (r && c))) ≡ (r && (b && c))
       twice true b c = refl
@@ -274,7 +272,7 @@ module _ (cs : List ℕ) (a : List Role) (N : ℕ) (above : List ℕ) (f : ℕ) 
 
       told : (i m : ℕ) → (inRoom m && (has (maskAt above i) (t .0) && has M m)) ≡ (inRoom m && entryShows cs a N above f i m)
       told i m = ap (λ z. inRoom m && (has (maskAt above i) (t .0) && z)) (h m
-          ∙ ap (λ z. z || (inRoom m && passes N (carried cs (roleAt a (t .0 % 16)) N l) true f l m)) (has-none m))
+          ∙ ap (λ z. z || (inRoom m && passes N (carried cs a N (t .0) l) true f l m)) (has-none m))
           ∙ twice (inRoom m) (has (maskAt above i) (t .0)) _
           ∙ ap (λ z. inRoom m && passes N z (has (maskAt above i) (t .0)) f l m) onward
           ∙ ap (λ z. inRoom m && z) (every-read cs f x (Every t l) e (q
@@ -314,7 +312,7 @@ shown-none cs N on T Q M n e g h = set-ext Q 0
     (λ l u. absurd (no-member l u))
 
 -- the qualifiers, with what all entries show
-pub shown-six : (cs : List ℕ) (a : List Role) (N : ℕ) (on : ℕ → Bool) (rows : List Held.Row) (k : ℕ) (above : List ℕ) (old new : List Label)
+pub shown-six : (cs a : List ℕ) (N : ℕ) (on : ℕ → Bool) (rows : List Held.Row) (k : ℕ) (above : List ℕ) (old new : List Label)
     → Labels (λ i. labelWith 0 (heldAt rows i .qualifier)) k old → Masks (λ i. aboveOf a (given (heldAt rows i))) k above
     → Grown old new (λ i l. anyBelow (entryCount cs) (everyShows cs N on (has (maskAt above i)) l))
     → Labels (λ i. shownBy cs a N on (given (heldAt rows i))) k new

@@ -2,19 +2,17 @@
 ghost use mathlib.Core.Path.{_≡_};
 ghost use mathlib.Core.Bool.{_&&_, cond, true, false};
 ghost use mathlib.Core.List.{List};
-ghost use Prim.Native.Nat.{ℕ, _%_, _<_, _≤_};
+ghost use Prim.Native.Nat.{ℕ, _+_, _%_, _<_, _≤_};
 ghost use lib.Dec.{eqb};
-ghost use lib.ListN.{length};
+ghost use lib.ListN.{length, getD};
 ghost use Rattle.logic.specs.Bounded.{anyBelow};
 ghost use Rattle.logic.specs.Sets.{has};
 ghost use Rattle.parts.specs.Numbers.{upTo};
 ghost use Rattle.labels.specs.Labels.{mostEntries, valueOf, labelWith};
 ghost use Rattle.tables.specs.Concepts.{fieldsStruct};
-ghost use Rattle.roles.specs.Records.{roleAt};
-ghost use Rattle.roles.specs.declared.Role.{Role};
 ghost use Rattle.evidence.specs.Evidence.{labelOf};
 ghost use Rattle.rows.specs.HeldRows.{given, heldAt, rowsHeld};
-ghost use Rattle.fillers.specs.FillerSteps.{carried};
+ghost use Rattle.fillers.specs.FillerSteps.{hasAbove};
 ghost use Rattle.list_cells.specs.CellSteps.{Puts, passes, carriedAt, cellFine, cellsCode};
 ghost use Rattle.list_cells.specs.CellRows.{onlyIf, Masks, Labels, maskAt, Grown, gatheredBy, citedIn};
 ghost use Rattle.list_cells.specs.CellRows.{entryShows, shownBy, deniedBy, bitOf, aboveOf};
@@ -34,7 +32,6 @@ use labels::put;
 use nodes::opposite;
 use parts::byte;
 use parts::up_to;
-use roles::Role;
 use roles::has16;
 use rows::Row;
 use rows::cell_count;
@@ -67,12 +64,11 @@ fn mask(x: u16) -> u16
 }
 
 // What a row gives to the cells, if it is `there`: the ancestors of its role,
-fn above_by(table: [Role; 16], row: Row, there: bool) -> u16
-    ensures { λ r. ⌜ (r ≡ onlyIf there (aboveOf table (given row))) × (r < 65536) ⌝ }
+fn above_by(m: &[u16; 32], row: Row, there: bool) -> u16
+    ensures { λ r. ⌜ (r ≡ onlyIf there (aboveOf (now (m .entry)) (given row))) × (r < 65536) ⌝ }
 {
     if there {
-        let r = table[(row.role.0 % 16) as usize];
-        mask(r.ancestors)
+        mask(m[(row.role.0 % 16) as usize])
     } else {
         0
     }
@@ -105,14 +101,14 @@ fn qualified_by(row: Row, there: bool) -> Label
 
 // The ancestors of the role of each of the first `k` rows. These loops go to 6 and not to `k`: so known a number is unrolled,
 // and the array lies in no memory of its own.
-fn above_of(table: [Role; 16], rows: [Row; 6], k: u8) -> [u16; 6]
+fn above_of(m: &[u16; 32], rows: [Row; 6], k: u8) -> [u16; 6]
     requires { ⌜ k ≤ 6 ⌝ }
-    ensures { λ r. ⌜ Masks (λ i. aboveOf table (given (heldAt rows i))) k r × ((i : ℕ) → i < 6 → maskAt r i < 65536) ⌝ }
+    ensures { λ r. ⌜ Masks (λ i. aboveOf (now (m .entry)) (given (heldAt rows i))) k r × ((i : ℕ) → i < 6 → maskAt r i < 65536) ⌝ }
 {
     let mut out: [u16; 6] = [0; 6];
     let mut i: u8 = 0;
     while i < 6 {
-        out[i as usize] = above_by(table, row_at(rows, k, i), i < k);
+        out[i as usize] = above_by(m, row_at(rows, k, i), i < k);
         i += 1;
     }
     out
@@ -163,12 +159,12 @@ fn qualified_of(rows: [Row; 6], k: u8) -> [Label; 6]
 
 // What "every t l", entry `f`, shows of a cell that has the role: `l` if the label `x` holds the entry,
 // and itself if the label carries it on.
-fn passed_by(cs: &[u8], t: Role, x: Label, f: EntryNo, l: u8) -> Label
+fn passed_by(cs: &[u8], carry: u16, x: Label, f: EntryNo, l: u8) -> Label
     requires { ⌜ f .0 < mostEntries ⌝ }
-    ensures { λ r. ⌜ Puts 0 (valueOf r) (passes (valueOf x) (carried (now (cs .entry)) t (valueOf x) l) true (f .0) l) ⌝ }
+    ensures { λ r. ⌜ Puts 0 (valueOf r) (passes (valueOf x) (hasAbove (now (cs .entry)) (valueOf x) carry l) true (f .0) l) ⌝ }
 {
     let held = holds(x, 2 * f.0);
-    let on = is_carried(cs, t, x, l);
+    let on = is_carried(cs, carry, x, l);
     let out = put_if(empty(), l, held);
     put_if(out, 2 * f.0, on)
 }
@@ -188,22 +184,26 @@ fn with_passed(old: [Label; 6], above: [u16; 6], t: RoleNo, y: Label) -> [Label;
     out
 }
 
-// Each label with what entry `f`, with the fields `g` and the record of its role, shows of a cell of the row. The record, not the table: a
-// table handed on by value would be copied for each entry.
+// Each label with what entry `f`, with the fields `g`, shows of a cell of the row; `carry` has the ancestors of its role if that is transitive.
 fn with_every(
     old: [Label; 6],
     cs: &[u8],
     g: Fields,
-    t: Role,
+    carry: u16,
     x: Label,
     above: [u16; 6],
     f: EntryNo,
 ) -> [Label; 6]
     requires { ⌜ (length old ≡ 6) × (f .0 < mostEntries) × (g ≡ fieldsStruct (now cs) (f .0)) ⌝ }
-    ensures { λ r. ⌜ ((a : List Role) → t ≡ roleAt a (g .role % 16) → Grown old r (entryShows (now (cs .entry)) a (valueOf x) above (f .0))) ⌝ }
+    ensures { λ r. ⌜ ((a : List ℕ) → carry ≡ getD a (16 + g .role % 16) 0 → Grown old r (entryShows (now (cs .entry)) a (valueOf x) above (f .0))) ⌝ }
 {
     if g.kind == 3 {
-        with_passed(old, above, RoleNo(g.role), passed_by(cs, t, x, f, g.first))
+        with_passed(
+            old,
+            above,
+            RoleNo(g.role),
+            passed_by(cs, carry, x, f, g.first),
+        )
     } else {
         old
     }
@@ -213,22 +213,22 @@ fn with_every(
 // The entries are walked once, not once a row; for each "every" of a transitive role once more (`is_carried`).
 fn shown_of(
     cs: &[u8],
-    table: [Role; 16],
+    m: &[u16; 32],
     x: Label,
     rows: [Row; 6],
     k: u8,
     above: [u16; 6],
 ) -> [Label; 6]
-    requires { ⌜ (k ≤ 6) × Masks (λ i. aboveOf table (given (heldAt rows i))) k above ⌝ }
-    ensures { λ r. ⌜ Labels (λ i. shownBy (now (cs .entry)) table (valueOf x) (carriedAt (now (cs .entry)) table (valueOf x)) (given (heldAt rows i))) k r ⌝ }
+    requires { ⌜ (k ≤ 6) × Masks (λ i. aboveOf (now m) (given (heldAt rows i))) k above ⌝ }
+    ensures { λ r. ⌜ Labels (λ i. shownBy (now (cs .entry)) (now (m .entry)) (valueOf x) (carriedAt (now (cs .entry)) (now (m .entry)) (valueOf x)) (given (heldAt rows i))) k r ⌝ }
 {
     let n = entry_count(cs);
     let mut out = qualified_of(rows, k);
     let mut f: u8 = 0;
     while f < n {
         let g = fields_at(cs, EntryNo(f));
-        let t = table[(g.role % 16) as usize];
-        let next = with_every(out, cs, g, t, x, above, EntryNo(f));
+        let carry = m[(16 + g.role % 16) as usize];
+        let next = with_every(out, cs, g, carry, x, above, EntryNo(f));
         out = next;
         f += 1;
     }
@@ -318,7 +318,7 @@ fn ended_at(c: u8, n: u8) -> Walk
 // Test 18, cell by cell, up to the first that fails. The roles are carried from each cell to the next, whether it cites a record or not.
 fn walk_cells(
     cs: &[u8],
-    table: [Role; 16],
+    m: &[u16; 32],
     s: &[u8],
     x: Label,
     rows: [Row; 6],
@@ -326,16 +326,16 @@ fn walk_cells(
     ds: &[u8],
     f: Layout,
 ) -> Walk
-    ensures { λ r. ⌜ Tally (upTo 6 k) (cellFine (now (cs .entry)) table (labelOf f (now (s .entry))) (valueOf x)
+    ensures { λ r. ⌜ Tally (upTo 6 k) (cellFine (now (cs .entry)) (now (m .entry)) (labelOf f (now (s .entry))) (valueOf x)
         (rowsHeld rows (upTo 6 k)) (now (ds .entry)) (upTo 6 k)) (r .fine) (r .cells) (r .changes) ⌝ }
 {
     let n = up_to(6, k as usize);
     // In a byte: on a processor of 32 bits a word of 64 takes a call to be shifted.
     let end = (cell_count(k) % 256) as u8;
-    let above = above_of(table, rows, n);
+    let above = above_of(m, rows, n);
     let own = own_of(rows, n);
     let against = against_of(rows, n);
-    let shown = shown_of(cs, table, x, rows, n, above);
+    let shown = shown_of(cs, m, x, rows, n, above);
     let mut from: [u16; 7] = [0; 7];
     let mut cells: u8 = 0;
     let mut changes: u8 = 0;
@@ -357,7 +357,7 @@ fn walk_cells(
 // Test 18: each cell that cites a record has the record's label within its known label.
 pub fn cells_ok(
     cs: &[u8],
-    table: [Role; 16],
+    m: &[u16; 32],
     s: &[u8],
     x: Label,
     rows: [Row; 6],
@@ -365,8 +365,8 @@ pub fn cells_ok(
     ds: &[u8],
     f: Layout,
 ) -> bool
-    ensures { λ r. ⌜ r ≡ cellsCode (now (cs .entry)) table (labelOf f (now (s .entry))) (valueOf x) (rowsHeld rows (upTo 6 k)) (now (ds .entry)) (upTo 6 k) ⌝ }
+    ensures { λ r. ⌜ r ≡ cellsCode (now (cs .entry)) (now (m .entry)) (labelOf f (now (s .entry))) (valueOf x) (rowsHeld rows (upTo 6 k)) (now (ds .entry)) (upTo 6 k) ⌝ }
 {
-    let found = walk_cells(cs, table, s, x, rows, k, ds, f);
+    let found = walk_cells(cs, m, s, x, rows, k, ds, f);
     found.fine
 }

@@ -27,7 +27,6 @@ use list_form::step_form;
 use list_steps::test_step;
 use list_tree::tree_closes;
 use parts::byte;
-use roles::Role;
 use rows::Row;
 use rows::rows_of;
 
@@ -54,7 +53,7 @@ fn test_forms(s: &[u8], n: u8, f: Layout) -> Tested
 
 // Tests 18 and 19 of the counting step `ds` of record `i` with the label `x`, whose `k` rows are `rows`.
 fn test_held(
-    table: [Role; 16],
+    m: &[u16; 32],
     cs: &[u8],
     s: &[u8],
     i: u8,
@@ -65,9 +64,9 @@ fn test_held(
     f: Layout,
 ) -> Tested
     requires { ⌜ (k ≤ 6) × (rowsHeld rows k ≡ rowsOf (describe [] (now cs) []) (bytesAt literal (now ds) 2 k)) ⌝ }
-    ensures { λ r. ⌜ refusalOf r ≡ refuse i (countCode table (now (cs .entry)) (labelOf f (now (s .entry))) (valueOf x) (now (ds .entry)) k) none ⌝ }
+    ensures { λ r. ⌜ refusalOf r ≡ refuse i (countCode (now (m .entry)) (now (cs .entry)) (labelOf f (now (s .entry))) (valueOf x) (now (ds .entry)) k) none ⌝ }
 {
-    if !cells_ok(cs, table, s, x, rows, k, ds, f) {
+    if !cells_ok(cs, m, s, x, rows, k, ds, f) {
         return Tested::Refused(18, i);
     }
     if !tree_closes(rows, k, ds) {
@@ -78,7 +77,7 @@ fn test_held(
 
 // The same with the rows read.
 fn test_count(
-    table: [Role; 16],
+    m: &[u16; 32],
     cs: &[u8],
     s: &[u8],
     i: u8,
@@ -88,14 +87,14 @@ fn test_count(
     f: Layout,
 ) -> Tested
     requires { ⌜ k ≤ 6 ⌝ }
-    ensures { λ r. ⌜ refusalOf r ≡ refuse i (countCode table (now (cs .entry)) (labelOf f (now (s .entry))) (valueOf x) (now (ds .entry)) k) none ⌝ }
+    ensures { λ r. ⌜ refusalOf r ≡ refuse i (countCode (now (m .entry)) (now (cs .entry)) (labelOf f (now (s .entry))) (valueOf x) (now (ds .entry)) k) none ⌝ }
 {
-    test_held(table, cs, s, i, x, ds, k, rows_of(cs, ds, k), f)
+    test_held(m, cs, s, i, x, ds, k, rows_of(cs, ds, k), f)
 }
 
 // Tests 10 and 16 to 19 of record `i` with the label `x` and the step `ds`.
 fn test_labelled(
-    table: [Role; 16],
+    m: &[u16; 32],
     cs: &[u8],
     qs: &[u8],
     s: &[u8],
@@ -104,24 +103,24 @@ fn test_labelled(
     ds: &[u8],
     f: Layout,
 ) -> Tested
-    ensures { λ r. ⌜ refusalOf r ≡ refuse i (stepCode table (now (cs .entry)) (now (qs .entry)) (labelOf f (now (s .entry))) i (valueOf x) (now (ds .entry))) none ⌝ }
+    ensures { λ r. ⌜ refusalOf r ≡ refuse i (stepCode (now (m .entry)) (now (cs .entry)) (now (qs .entry)) (labelOf f (now (s .entry))) i (valueOf x) (now (ds .entry))) none ⌝ }
 {
     let t = test_step(cs, qs, s, i, x, ds, f);
     let Tested::Fine = t else {
         return t;
     };
     if byte(ds, 0) == 6 {
-        return test_count(table, cs, s, i, x, ds, byte(ds, 1), f);
+        return test_count(m, cs, s, i, x, ds, byte(ds, 1), f);
     }
     Tested::Fine
 }
 
 // Tests 10 and 16 to 19 of record `i`.
-fn test_record(table: [Role; 16], cs: &[u8], qs: &[u8], s: &[u8], i: u8, f: Layout) -> Tested
-    ensures { λ r. ⌜ refusalOf r ≡ refuse i (recordCode table (now (cs .entry)) (now (qs .entry)) (labelOf f (now (s .entry))) (edgesPart f (now (s .entry))) i) none ⌝ }
+fn test_record(m: &[u16; 32], cs: &[u8], qs: &[u8], s: &[u8], i: u8, f: Layout) -> Tested
+    ensures { λ r. ⌜ refusalOf r ≡ refuse i (recordCode (now (m .entry)) (now (cs .entry)) (now (qs .entry)) (labelOf f (now (s .entry))) (edgesPart f (now (s .entry))) i) none ⌝ }
 {
     test_labelled(
-        table,
+        m,
         cs,
         qs,
         s,
@@ -133,12 +132,12 @@ fn test_record(table: [Role; 16], cs: &[u8], qs: &[u8], s: &[u8], i: u8, f: Layo
 }
 
 // Tests 10 and 16 to 19 of the `n` records, rising.
-fn test_records(table: [Role; 16], cs: &[u8], qs: &[u8], s: &[u8], n: u8, f: Layout) -> Tested
-    ensures { λ r. ⌜ refusalOf r ≡ refuseFrom (recordCode table (now (cs .entry)) (now (qs .entry)) (labelOf f (now (s .entry))) (edgesPart f (now (s .entry)))) n 0 none ⌝ }
+fn test_records(m: &[u16; 32], cs: &[u8], qs: &[u8], s: &[u8], n: u8, f: Layout) -> Tested
+    ensures { λ r. ⌜ refusalOf r ≡ refuseFrom (recordCode (now (m .entry)) (now (cs .entry)) (now (qs .entry)) (labelOf f (now (s .entry))) (edgesPart f (now (s .entry)))) n 0 none ⌝ }
 {
     let mut i: u8 = 0;
     while i < n {
-        let t = test_record(table, cs, qs, s, i, f);
+        let t = test_record(m, cs, qs, s, i, f);
         let Tested::Fine = t else {
             return t;
         };
@@ -158,36 +157,28 @@ fn test_end(want: Label, s: &[u8], last: u8, f: Layout) -> Tested
 }
 
 // Tests 10 and 16 to 20 of the `n` records.
-fn test_all(
-    table: [Role; 16],
-    cs: &[u8],
-    qs: &[u8],
-    want: Label,
-    s: &[u8],
-    n: u8,
-    f: Layout,
-) -> Tested
+fn test_all(m: &[u16; 32], cs: &[u8], qs: &[u8], want: Label, s: &[u8], n: u8, f: Layout) -> Tested
     requires { ⌜ 1 ≤ n ⌝ }
-    ensures { λ r. ⌜ refusalOf r ≡ recordsCode table (now (cs .entry)) (now (qs .entry)) (valueOf want) (labelOf f (now (s .entry))) (edgesPart f (now (s .entry))) n ⌝ }
+    ensures { λ r. ⌜ refusalOf r ≡ recordsCode (now (m .entry)) (now (cs .entry)) (now (qs .entry)) (valueOf want) (labelOf f (now (s .entry))) (edgesPart f (now (s .entry))) n ⌝ }
 {
     let t = test_forms(s, n, f);
     let Tested::Fine = t else {
         return t;
     };
-    let u = test_records(table, cs, qs, s, n, f);
+    let u = test_records(m, cs, qs, s, n, f);
     let Tested::Fine = u else {
         return u;
     };
     test_end(want, s, n - 1, f)
 }
 
-// Tests 9, 10 and 16 to 20 of the list `s`, which is to end within literal 0 and `want`, with the role records.
-pub fn test_list(table: [Role; 16], cs: &[u8], qs: &[u8], want: Label, s: &[u8]) -> Tested
-    ensures { λ r. ⌜ refusalOf r ≡ listCode table (now (cs .entry)) (now (qs .entry)) (valueOf want) (now (s .entry)) ⌝ }
+// Tests 9, 10 and 16 to 20 of the list `s`, which is to end within literal 0 and `want`, with the masks of the roles.
+pub fn test_list(m: &[u16; 32], cs: &[u8], qs: &[u8], want: Label, s: &[u8]) -> Tested
+    ensures { λ r. ⌜ refusalOf r ≡ listCode (now (m .entry)) (now (cs .entry)) (now (qs .entry)) (valueOf want) (now (s .entry)) ⌝ }
 {
     let head = read_head(s);
     match head {
-        Head::RefutationOf(n) => test_all(table, cs, qs, want, s, n, layout_of(cs)),
+        Head::RefutationOf(n) => test_all(m, cs, qs, want, s, n, layout_of(cs)),
         Head::GraphOf(_) => Tested::Refused(9, 0),
         Head::Off => Tested::Refused(9, 0),
     }

@@ -1,21 +1,23 @@
 -- The role records in working memory (02, job 4): each role with its transitive byte and its parents, as the description has them, its
 -- ancestors, and whether it is simple.
-use Prim.Native.Nat.{ℕ, zero, suc, _+_, _*_, _/_, _≤_, _<_}
+use Prim.Native.Nat.{ℕ, _+_, _-_, _*_, _/_, _≤_, _<_}
 use mathlib.Core.Path.{_≡_, refl, sym, _∙_, ap, ap₂}
-use mathlib.Core.Bool.{Bool, false, not, _&&_}
-use mathlib.Core.List.{List, [], _∷_, map}
+use mathlib.Core.Bool.{Bool, true, false, cond, not, _&&_}
+use mathlib.Core.List.{List}
 use native.Mathlib.Omega.{arith}
 use native.Mathlib.Decide.{decLt}
-use lib.Dec.{eqb}
-use lib.ListN.{length, getD, length-map}
+use borrow.Author.Tests.{lt-ltb, le-ltb}
+use lib.Dec.{eqb, ltb}
+use lib.ListN.{length, getD}
 use lib.Seq.{ext-getD}
 use Rattle.logic.specs.Tests.{not-not}
 use Rattle.logic.specs.Bounded.{any-cong}
 use Rattle.logic.specs.Lists.{tabulate, length-tabulate, at-tabulate}
-use Rattle.logic.specs.Sets.{has, setOf}
-use Rattle.logic.specs.SetLaws.{has-setOf, setOf-cong}
+use Rattle.logic.specs.Sums.{only}
+use Rattle.logic.specs.Sets.{has}
+use Rattle.logic.specs.SetLaws.{has-setOf, has-none, setOf-cong}
 use Rattle.parts.specs.Numbers.{byteAt, num2, upTo, up-to-all, up-to-most}
-use Rattle.description.specs.Roles.{simple}
+use Rattle.description.specs.Roles.{ancestor, anc-refl, simple}
 use Rattle.tables.specs.Tables.{describe}
 use Rattle.roles.specs.Ancestors.{ancestorMask, AncestorsOf, roleCount, passed, aboveTransitive, ancestor-masks, not-simple}
 use Rattle.roles.specs.declared.Role.{Role}
@@ -29,15 +31,20 @@ roleAt t i = getD t i noRole
 
 -- ---- the table of the part rs, for parts of every length
 -- the ancestors of each role
-abbrev pub masksOf : List ℕ → List ℕ
-masksOf rs = tabulate 16 (passed rs (roleCount rs))
+abbrev pub ancestorTable : List ℕ → List ℕ
+ancestorTable rs = tabulate 16 (passed rs (roleCount rs))
 
 -- the roles that are not simple
 unfoldable pub complexIn : List ℕ → ℕ
-complexIn rs = aboveTransitive rs (masksOf rs) (roleCount rs)
+complexIn rs = aboveTransitive rs (ancestorTable rs) (roleCount rs)
 
 abbrev pub recordWith : List ℕ → ℕ → ℕ → ℕ → Role
-recordWith rs complex i above = record { transitive = byteAt rs (3 * i); parents = num2 rs (3 * i + 1); ancestors = above; simple = not (has complex i) }
+recordWith rs complex i above = record {
+  transitive = byteAt rs (3 * i);
+  parents = num2 rs (3 * i + 1);
+  ancestors = above;
+  simple = not (has complex i);
+}
 
 unfoldable pub roleRecord : List ℕ → ℕ → Role
 roleRecord rs i = recordWith rs (complexIn rs) i (passed rs (roleCount rs) i)
@@ -60,30 +67,64 @@ module _ (rs : List ℕ) (t : List Role) (tab : t ≡ roleTable rs) where
   table-parents i h = ap (λ R. R .parents) (record-at i h)
 
   module _ (cs qs : List ℕ) (few : length rs / 3 ≤ 16) (i : ℕ) (h : i < 16) where
-    own-masks : AncestorsOf rs (masksOf rs)
+    own-masks : AncestorsOf rs (ancestorTable rs)
     own-masks j k = at-tabulate 16 (passed rs (roleCount rs)) 0 j k
 
     pub table-masks : roleAt t i .ancestors ≡ ancestorMask (describe rs cs qs) i
     unfolding roleRecord
-    table-masks = ap (λ R. R .ancestors) (record-at i h) ∙ sym (own-masks i h) ∙ ancestor-masks rs cs qs (masksOf rs) own-masks few i h
+    table-masks = ap (λ R. R .ancestors) (record-at i h) ∙ sym (own-masks i h) ∙ ancestor-masks rs cs qs (ancestorTable rs) own-masks few i h
 
     pub table-simple : roleAt t i .simple ≡ simple (describe rs cs qs) i
     unfolding roleRecord complexIn
-    table-simple = ap (λ R. R .simple) (record-at i h) ∙ ap (λ m. not (has m i)) (not-simple rs (masksOf rs) cs qs own-masks few)
+    table-simple = ap (λ R. R .simple) (record-at i h) ∙ ap (λ m. not (has m i)) (not-simple rs (ancestorTable rs) cs qs own-masks few)
         ∙ ap not (has-setOf 16 (λ s. not (simple (describe rs cs qs) s)) i h) ∙ not-not (simple (describe rs cs qs) i)
 
--- ---- the ancestors alone, one mask a role, for loops over all of them
-abbrev pub ancestorsIn : List Role → List ℕ
-ancestorsIn t = map (λ R. R .ancestors) t
+-- ---- the masks that evidence asks for: the ancestors of each role, and behind them those of each transitive role, none for the others
+abbrev pub carrier : Role → ℕ
+carrier R = only (eqb (R .transitive) 1) (R .ancestors)
 
-at-ancestors : (t : List Role) (i : ℕ) → getD (ancestorsIn t) i 0 ≡ roleAt t i .ancestors
-at-ancestors [] i = refl
-at-ancestors (x ∷ t) zero = refl
-at-ancestors (x ∷ t) (suc i) = at-ancestors t i
+abbrev pub maskOf : List Role → ℕ → ℕ
+maskOf t i = cond (ltb i 16) (roleAt t i .ancestors) (carrier (roleAt t (i - 16)))
 
-pub table-ancestors : (rs : List ℕ) (t : List Role) → t ≡ roleTable rs → AncestorsOf rs (ancestorsIn t)
-unfolding roleRecord
-table-ancestors rs t e i h = at-ancestors t i ∙ ap (λ R. R .ancestors) (record-at rs t e i h)
+unfoldable pub roleMasks : List Role → List ℕ
+roleMasks t = tabulate 32 (maskOf t)
+
+-- those of the part rs
+abbrev pub MasksOf : List ℕ → List ℕ → Type 0
+MasksOf rs m = m ≡ roleMasks (roleTable rs)
+
+module _ (rs m : List ℕ) (masks : MasksOf rs m) (i : ℕ) (h : i < 16) where
+  above-at : getD m i 0 ≡ roleRecord rs i .ancestors
+  unfolding roleMasks
+  above-at = ap (λ m. getD m i 0) masks ∙ at-tabulate 32 (maskOf (roleTable rs)) 0 i (omega arith)
+      ∙ rw (lt-ltb i 16 h) (ap (λ R. R .ancestors) (record-at rs (roleTable rs) refl i h))
+
+  carrier-at : getD m (16 + i) 0 ≡ carrier (roleRecord rs i)
+  unfolding roleMasks
+  carrier-at = ap (λ m. getD m (16 + i) 0) masks ∙ at-tabulate 32 (maskOf (roleTable rs)) 0 (16 + i) (omega arith)
+      ∙ rw (le-ltb (16 + i) 16 (omega arith))
+      (let z : 16 + i - 16 ≡ i = omega arith in rw z (ap carrier (record-at rs (roleTable rs) refl i h)))
+
+  pub masks-plain : getD m i 0 ≡ passed rs (roleCount rs) i
+  unfolding roleRecord
+  masks-plain = above-at
+
+  module _ (cs qs : List ℕ) (few : length rs / 3 ≤ 16) where
+    pub masks-above : getD m i 0 ≡ ancestorMask (describe rs cs qs) i
+    masks-above = above-at ∙ ap (λ R. R .ancestors) (sym (record-at rs (roleTable rs) refl i h))
+        ∙ table-masks rs (roleTable rs) refl cs qs few i h
+
+    pub masks-carried : getD m (16 + i) 0 ≡ only (describe rs cs qs .transitive i) (ancestorMask (describe rs cs qs) i)
+    masks-carried = carrier-at ∙ ap carrier (sym (record-at rs (roleTable rs) refl i h))
+        ∙ ap₂ (λ b a. only (eqb b 1) a) (table-bytes rs (roleTable rs) refl i h) (table-masks rs (roleTable rs) refl cs qs few i h)
+
+    -- a role is among its own carriers exactly if it is transitive
+    pub masks-transitive : has (getD m (16 + i) 0) i ≡ describe rs cs qs .transitive i
+    masks-transitive = ap (λ x. has x i) masks-carried ∙ go (describe rs cs qs .transitive i)
+      where
+        go : (b : Bool) → has (only b (ancestorMask (describe rs cs qs) i)) i ≡ b
+        go true = has-setOf 16 (ancestor (describe rs cs qs) i) i h ∙ anc-refl (describe rs cs qs) i
+        go false = has-none i
 
 -- ---- laws for the code
 at-most : (most n : ℕ) → upTo most n ≤ most
@@ -95,7 +136,8 @@ at-most most n = elim (decLt n most) [
 -- the roles that are not simple, from any table of ancestors
 pub complex-from : (rs a : List ℕ) (complex : ℕ) → AncestorsOf rs a → complex ≡ aboveTransitive rs a (roleCount rs) → complex ≡ complexIn rs
 unfolding complexIn
-complex-from rs a complex anc e = e ∙ setOf-cong 16 _ _ (λ s _. any-cong (roleCount rs) _ _ (λ i h. let k : i < 16 = omega (arith, at-most 16 (length rs / 3)) in
+complex-from rs a complex anc e = e
+    ∙ setOf-cong 16 _ _ (λ s _. any-cong (roleCount rs) _ _ (λ i h. let k : i < 16 = omega (arith, at-most 16 (length rs / 3)) in
     ap (λ m. eqb (byteAt rs (3 * i)) 1 && has m s) (anc i k ∙ sym (at-tabulate 16 (passed rs (roleCount rs)) 0 i k))))
 
 pub record-made : (rs a : List ℕ) (complex i : ℕ) (R : Role) → AncestorsOf rs a → complex ≡ complexIn rs → i < 16
@@ -108,5 +150,7 @@ unfolding roleTable
 table-made rs t long f = ext-getD noRole t (roleTable rs) (long ∙ sym (length-tabulate 16 (roleRecord rs)))
     (λ i h. let k : i < 16 = omega (arith, long) in f i k ∙ sym (at-tabulate 16 (roleRecord rs) noRole i k))
 
-pub masks-made : (t : List Role) (out : List ℕ) → length t ≡ 16 → length out ≡ 16 → ((i : ℕ) → i < 16 → getD out i 0 ≡ roleAt t i .ancestors) → out ≡ ancestorsIn t
-masks-made t out e f g = ext-getD 0 out (ancestorsIn t) (f ∙ sym (length-map t (λ R. R .ancestors) ∙ e)) (λ i h. g i (omega (arith, f)) ∙ sym (at-ancestors t i))
+pub masks-made : (t : List Role) (out : List ℕ) → length out ≡ 32 → ((i : ℕ) → i < 32 → getD out i 0 ≡ maskOf t i) → out ≡ roleMasks t
+unfolding roleMasks
+masks-made t out f g = ext-getD 0 out (tabulate 32 (maskOf t)) (f ∙ sym (length-tabulate 32 (maskOf t)))
+    (λ i h. let k : i < 32 = omega (arith, f) in g i k ∙ sym (at-tabulate 32 (maskOf t) 0 i k))

@@ -1,13 +1,13 @@
 // The role records: each role with its transitive byte, its parents, its ancestors, and whether it is simple.
 ghost use mathlib.Core.Path.{_≡_};
-ghost use mathlib.Core.Bool.{cond, not};
+ghost use mathlib.Core.Bool.{cond};
 ghost use lib.Bits.{bitOr};
 ghost use lib.Dec.{eqb};
-ghost use Prim.Native.Nat.{ℕ, _+_, _*_, _/_, _<_, _≤_, _^_};
-ghost use lib.ListN.{length, getD};
+ghost use Prim.Native.Nat.{ℕ, _+_, _*_, _/_, _<_, _≤_};
+ghost use lib.ListN.{getD};
 ghost use Rattle.logic.specs.Sets.{has, narrow};
 ghost use Rattle.roles.specs.Ancestors.{AncestorsOf, roleCount, passed, joined, aboveTransitive};
-ghost use Rattle.roles.specs.Records.{roleAt, recordWith, roleTable, ancestorsIn};
+ghost use Rattle.roles.specs.Records.{recordWith, roleTable, carrier, maskOf, roleMasks};
 use parts::byte;
 use parts::mask2;
 use parts::up_to;
@@ -159,30 +159,36 @@ pub fn role_table(rs: &[u8]) -> [Role; 16]
     out
 }
 
-// The mask `x`: what a call answers is known to have 16 bits, an element of an array is not.
-fn mask(x: u16) -> u16
-    ensures { λ r. ⌜ (r ≡ x) × (r < 65536) ⌝ }
+// The ancestors of a transitive role; of another, none.
+fn carrier_of(x: Role) -> u16
+    ensures { λ r. ⌜ r ≡ carrier x ⌝ }
 {
-    x
+    if x.transitive == 1 { x.ancestors } else { 0 }
 }
 
-// The ancestors that record `i` holds.
-fn above_at(t: [Role; 16], i: u8) -> u16
-    requires { ⌜ i < 16 ⌝ }
-    ensures { λ r. ⌜ (r ≡ roleAt t i .ancestors) × (r < 65536) ⌝ }
+// Mask `i` of those that evidence asks for.
+fn mask_of(t: [Role; 16], i: u8) -> u16
+    requires { ⌜ i < 32 ⌝ }
+    ensures { λ r. ⌜ r ≡ maskOf t i ⌝ }
 {
-    let x = t[i as usize];
-    mask(x.ancestors)
+    if i < 16 {
+        let x = t[i as usize];
+        x.ancestors
+    } else {
+        let y = t[(i - 16) as usize];
+        carrier_of(y)
+    }
 }
 
-// The ancestors of each role, one mask a role: for loops over all of them.
-pub fn ancestors_of(t: [Role; 16]) -> [u16; 16]
-    ensures { λ r. ⌜ r ≡ ancestorsIn t ⌝ }
+// The masks that evidence asks for: the ancestors of each role, and behind them those of each transitive role, none for the others. An
+// array of numbers can be lent; a table of records would be copied for each call.
+pub fn role_masks(t: [Role; 16]) -> [u16; 32]
+    ensures { λ r. ⌜ r ≡ roleMasks t ⌝ }
 {
-    let mut out: [u16; 16] = [0; 16];
+    let mut out: [u16; 32] = [0; 32];
     let mut i: u8 = 0;
-    while i < 16 {
-        out[i as usize] = above_at(t, i);
+    while i < 32 {
+        out[i as usize] = mask_of(t, i);
         i += 1;
     }
     out

@@ -13,7 +13,6 @@ use intake::query_part;
 use list_check::test_list;
 use nodes::root_set;
 use parts::byte;
-use roles::Role;
 
 // The verdict that tests of a list, or of a graph, end in.
 fn told(t: Tested, list: bool) -> Verdict
@@ -31,14 +30,14 @@ fn told(t: Tested, list: bool) -> Verdict
     }
 }
 
-// The verdict on an opened description with evidence, by the records of so many roles.
-fn check_opened(t: [Role; 16], roles: u8, cs: &[u8], qs: &[u8], s: &[u8]) -> Verdict
-    ensures { λ r. ⌜ ofVerdict r ≡ openedVerdict t roles (now (cs .entry)) (now (qs .entry)) (now (s .entry)) ⌝ }
+// The verdict on an opened description with evidence, by the masks of so many roles.
+fn check_opened(m: &[u16; 32], roles: u8, cs: &[u8], qs: &[u8], s: &[u8]) -> Verdict
+    ensures { λ r. ⌜ ofVerdict r ≡ openedVerdict (now (m .entry)) roles (now (cs .entry)) (now (qs .entry)) (now (s .entry)) ⌝ }
 {
     if byte(s, 0) == 2 {
-        return told(test_list(t, cs, qs, root_set(qs), s), true);
+        return told(test_list(m, cs, qs, root_set(qs), s), true);
     }
-    told(test_sample(t, roles, cs, qs, s), false)
+    told(test_sample(m, roles, cs, qs, s), false)
 }
 
 // The verdict on a description with evidence, for slices of every length.
@@ -47,9 +46,9 @@ pub fn check_evidence(d: &[u8], s: &[u8]) -> Verdict
 {
     let o = open_description(d);
     let tested = o.tested;
-    let roles = o.roles;
+    let m = o.masks;
     match tested {
-        Tested::Fine => check_opened(roles, o.count, concepts_part(d), query_part(d), s),
+        Tested::Fine => check_opened(&m, o.count, concepts_part(d), query_part(d), s),
         Tested::Refused(n, r) => Verdict::Refused(n, r),
     }
 }

@@ -6,10 +6,6 @@ use Rattle.claims.proofs.check_claim.Statement.{statement}
 use Rattle.claims.proofs.check_claim.Tie as tie
 use Rattle.claims.proofs.check_claim.Reads as reads
 use Rattle.claims.proofs.check_claim.Lts as lts
-use Rattle.claims.proofs.check_opened.Reads as check-opened-reads
-use Rattle.intake.proofs.concepts_part.Reads as concepts-part-reads
-use Rattle.intake.proofs.open_description.Reads as open-description-reads
-use Rattle.intake.proofs.query_part.Reads as query-part-reads
 
 open-description-requires : tie.Need-open-description-requires
 open-description-requires c κs = search needs
@@ -30,10 +26,10 @@ enum-known-tested : tie.Need-enum-known-tested
 enum-known-tested c = search needs
 
 returns : tie.Need-returns
-returns c = let o = c .before .before .before .before .before .before .open-description .ensures in c .check-opened .ensures ∙ claim-opened (c .before .before .before .before .before .before .before .before .before .before .args .description .now) (c .before .before .before .before .before .before .before .before .before .before .args .c) (c .before .before .before .before .before .before .before .before .before .before .args .d) (c .before .before .before .before .before .before .before .before .before .before .args .first .now) (c .before .before .before .before .before .before .before .before .before .before .args .second .now) _ _ _ _ (sym (ap refusalOf (c .before .enum-told .given .1)) ∙ o .tested) (o .roles) (o .count) (c .before .before .before .before .concepts-part .ensures) (c .before .before .before .query-part .ensures)
+returns c = c .check-opened .ensures ∙ claim-opened (c .before .before .before .before .before .before .before .before .before .before .before .args .description .now) (c .before .before .before .before .before .before .before .before .before .before .before .args .c) (c .before .before .before .before .before .before .before .before .before .before .before .args .d) (c .before .before .before .before .before .before .before .before .before .before .before .args .first .now) (c .before .before .before .before .before .before .before .before .before .before .before .args .second .now) _ _ _ _ (sym (ap refusalOf (c .before .before .enum-told .given .1)) ∙ c .before .before .before .before .before .before .before .open-description .ensures .tested) (c .before .before .before .before .before .before .before .open-description .ensures .masks) (c .before .before .before .before .before .before .before .open-description .ensures .count) (c .before .before .before .before .before .concepts-part .ensures) (c .before .before .before .before .query-part .ensures)
 
 returns-2 : tie.Need-returns-2
-returns-2 c = let o = c .before .before .before .before .before .before .open-description .ensures in claim-refused (c .before .before .before .before .before .before .before .before .before .before .args .description .now) (c .before .before .before .before .before .before .before .before .before .before .args .c) (c .before .before .before .before .before .before .before .before .before .before .args .d) (c .before .before .before .before .before .before .before .before .before .before .args .first .now) (c .before .before .before .before .before .before .before .before .before .before .args .second .now) _ _ (sym (ap refusalOf (c .before .tested .given .1)) ∙ o .tested)
+returns-2 c = claim-refused (c .before .before .before .before .before .before .before .before .before .before .args .description .now) (c .before .before .before .before .before .before .before .before .before .before .args .c) (c .before .before .before .before .before .before .before .before .before .before .args .d) (c .before .before .before .before .before .before .before .before .before .before .args .first .now) (c .before .before .before .before .before .before .before .before .before .before .args .second .now) _ _ (sym (ap refusalOf (c .before .tested .given .1)) ∙ c .before .before .before .before .before .before .open-description .ensures .tested)
 
 pub check-claim-spec : {M : Type 1} → statement M
 check-claim-spec =

@@ -10,7 +10,7 @@ use Rattle.closing.proofs.close.Reads as close-reads
 use Rattle.closing.proofs.raise.Reads as raise-reads
 
 returns : tie.Need-returns
-returns c = (refl, closed-short (c .before .before .args .buf .now) (c .before .before .args .at) (c .before .before .args .d) (c .before .before .args .t) (c .before .before .args .a) (omega arith))
+returns c = (refl, closed-short (c .before .before .args .buf .now) (c .before .before .args .at) (c .before .before .args .d) (c .before .before .args .t) (c .before .before .args .a .now) (omega arith))
 
 sub-if2 : tie.Need-sub-if2
 sub-if2 c = search needs
@@ -22,7 +22,7 @@ mul-if2-2 : tie.Need-mul-if2-2
 mul-if2-2 c = omega (arith, small (c .before .before .args .d) (c .before .before .args .d) (omega arith) (omega arith))
 
 returns-2 : tie.Need-returns-2
-returns-2 c = (refl, closed-short (c .before .before .before .args .buf .now) (c .before .before .before .args .at) (c .before .before .before .args .d) (c .before .before .before .args .t) (c .before .before .before .args .a) (omega arith))
+returns-2 c = (refl, closed-short (c .before .before .before .args .buf .now) (c .before .before .before .args .at) (c .before .before .before .args .d) (c .before .before .before .args .t) (c .before .before .before .args .a .now) (omega arith))
 
 close-requires : tie.Need-close-requires
 close-requires c κs = search needs
@@ -36,7 +36,7 @@ same-length c = search needs
 returns-3 : tie.Need-returns-3
 returns-3 c = let a = c .before .before .before .before .before .before .before .before .before .before .before .args in let b = c .before .before .before .before .before .before .close .ensures in let r = c .before .before .raise .ensures in (
   r .whole ∙ b .whole,
-  closed-bytes (a .buf .now) (a .at) (a .d) (a .t) (a .a) (c .before .before .before .before .before .before .close .last .0) (c .before .before .raise .last .0)
+  closed-bytes (a .buf .now) (a .at) (a .d) (a .t) (a .a .now) (c .before .before .before .before .before .before .close .last .0) (c .before .before .raise .last .0)
       (λ p. omega (arith, c .slice-known3 .given p)) b r (omega arith),
 )
 

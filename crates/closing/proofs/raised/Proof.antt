@@ -26,8 +26,8 @@ cast-with-above c = omega arith
 mul-with-above : tie.Need-mul-with-above Inv-loop μ-loop
 mul-with-above c = omega arith
 
-array-read-with-above : tie.Need-array-read-with-above Inv-loop μ-loop
-array-read-with-above c = omega arith
+element-copy-out-with-above : tie.Need-element-copy-out-with-above Inv-loop μ-loop
+element-copy-out-with-above c = omega arith
 
 with-above-requires : tie.Need-with-above-requires Inv-loop μ-loop
 with-above-requires c κs = tt
@@ -41,12 +41,12 @@ loop-less c = omega arith
 loop-again : tie.Need-loop-again Inv-loop μ-loop
 loop-again c = (
   omega arith,
-  raised-more (c .before .before .before .before .args .m) (c .before .before .before .before .args .t) (c .before .before .loop .u) _ _ _ (c .before .before .before .before .args .t3)
-      (c .before .before .loop .inv .1) refl (c .with-above .ensures .1) (c .with-above .ensures .0),
+  raised-more (c .before .before .before .before .before .args .m) (c .before .before .before .before .before .args .t) (c .before .before .before .loop .u) _ _ _
+      (c .before .before .before .before .before .args .a .now) (c .before .before .before .loop .inv .1) refl (c .with-above .ensures .1) (c .with-above .ensures .0),
 )
 
 returns-2 : tie.Need-returns-2 Inv-loop μ-loop
-returns-2 c = c .before .loop .inv .1 ∙ ap (raisedTo (c .before .before .before .args .m) (c .before .before .before .args .t) (c .before .before .before .args .t3)) (omega arith)
+returns-2 c = c .before .loop .inv .1 ∙ ap (raisedTo (c .before .before .before .args .m) (c .before .before .before .args .t) (c .before .before .before .args .a .now)) (omega arith)
 
 pub raised-spec : {M : Type 1} → statement M
 raised-spec =
@@ -58,7 +58,7 @@ raised-spec =
     loop-holds
     cast-with-above
     mul-with-above
-    array-read-with-above
+    element-copy-out-with-above
     with-above-requires
     add-u
     loop-less

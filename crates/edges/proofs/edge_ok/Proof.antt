@@ -16,7 +16,7 @@ upward-requires c κs = search needs
 
 returns : tie.Need-returns
 unfolding nonempty
-returns c = let p = c .before .before .before .before .before .before .args in edge-read (p .a) (p .n) (p .size) (p .e) _ _ (c .before .before .before .before .before .before .pre) (c .before .before .before .before .before .fits16 .ensures) (c .before .before .before .before .upward .ensures)
+returns c = let p = c .before .before .before .before .before .before .args in edge-read (p .a .now) (p .n) (p .size) (p .e) _ _ (c .before .before .before .before .before .before .pre) (c .before .before .before .before .before .fits16 .ensures) (c .before .before .before .before .upward .ensures)
 
 pub edge-ok-spec : {M : Type 1} → statement M
 edge-ok-spec = tie.close (tie.spec fits16-requires upward-requires returns)

@@ -29,7 +29,7 @@ edge-ok-requires : tie.Need-edge-ok-requires Inv-loop μ-loop
 edge-ok-requires c κs = search needs
 
 returns : tie.Need-returns Inv-loop μ-loop
-returns c = sym (all-stop _ (c .before .before .before .before .loop .j) _ (omega arith) (ap (edgeCode (c .before .before .before .before .before .before .args .a) (c .before .before .before .before .before .before .args .n) (c .before .before .before .before .before .before .args .size)) (sym (c .before .before .edge-at .ensures .0)) ∙ sym (c .before .edge-ok .ensures) ∙ not-true _ (c .if1 .taken)))
+returns c = sym (all-stop _ (c .before .before .before .before .loop .j) _ (omega arith) (ap (edgeCode (c .before .before .before .before .before .before .args .a .now) (c .before .before .before .before .before .before .args .n) (c .before .before .before .before .before .before .args .size)) (sym (c .before .before .edge-at .ensures .0)) ∙ sym (c .before .edge-ok .ensures) ∙ not-true _ (c .if1 .taken)))
 
 add-j : tie.Need-add-j Inv-loop μ-loop
 add-j c = omega arith
@@ -38,7 +38,7 @@ loop-less : tie.Need-loop-less Inv-loop μ-loop
 loop-less c = omega arith
 
 loop-again : tie.Need-loop-again Inv-loop μ-loop
-loop-again c = (omega arith, all-more _ (c .before .before .before .before .loop .j) (c .before .before .before .before .loop .inv .1) (ap (edgeCode (c .before .before .before .before .before .before .args .a) (c .before .before .before .before .before .before .args .n) (c .before .before .before .before .before .before .args .size)) (sym (c .before .before .edge-at .ensures .0)) ∙ sym (c .before .edge-ok .ensures) ∙ not-false _ (c .if1 .left)))
+loop-again c = (omega arith, all-more _ (c .before .before .before .before .loop .j) (c .before .before .before .before .loop .inv .1) (ap (edgeCode (c .before .before .before .before .before .before .args .a .now) (c .before .before .before .before .before .before .args .n) (c .before .before .before .before .before .before .args .size)) (sym (c .before .before .edge-at .ensures .0)) ∙ sym (c .before .edge-ok .ensures) ∙ not-false _ (c .if1 .left)))
 
 returns-2 : tie.Need-returns-2 Inv-loop μ-loop
 returns-2 c = sym (all-done _ (c .before .loop .j) _ (omega arith) (omega arith) (c .before .loop .inv .1))

@@ -20,7 +20,7 @@ edges-hold-requires c κs = search needs
 
 returns : tie.Need-returns
 returns c = let p = c .before .before .before .before .args in
-    c .edges-hold .ensures ∙ edges-read (p .es .now) (p .a) (p .roles) (p .size) _ _ (c .before .before .edge-count .ensures .0) (c .before .up-to .ensures .0)
+    c .edges-hold .ensures ∙ edges-read (p .es .now) (p .a .now) (p .roles) (p .size) _ _ (c .before .before .edge-count .ensures .0) (c .before .up-to .ensures .0)
 
 pub edges-ok-spec : {M : Type 1} → statement M
 edges-ok-spec = tie.close (tie.spec edge-count-requires up-to-requires edges-hold-requires returns)

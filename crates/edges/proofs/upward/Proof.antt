@@ -14,10 +14,10 @@ use Rattle.edges.proofs.upward.Lts as lts
 use Rattle.edges.proofs.above_if.Reads as above-if-reads
 
 abbrev Inv-loop : tie.InvT-loop
-Inv-loop m a up₀ r₀ up r = (r ≤ 16) × (up ≡ unionBelow r (λ r. only (has m r) (getD a r 0)))
+Inv-loop a m up₀ r₀ up r = (r ≤ 16) × (up ≡ unionBelow r (λ r. only (has m r) (getD a r 0)))
 
 abbrev μ-loop : tie.MeasureT-loop
-μ-loop m a up₀ r₀ up r = 16 - r
+μ-loop a m up₀ r₀ up r = 16 - r
 
 loop-holds : tie.Need-loop-holds Inv-loop μ-loop
 loop-holds c = (omega arith, union-none _)
@@ -28,8 +28,8 @@ cast-above-if c = omega arith
 mul-above-if : tie.Need-mul-above-if Inv-loop μ-loop
 mul-above-if c = omega arith
 
-array-read-above-if : tie.Need-array-read-above-if Inv-loop μ-loop
-array-read-above-if c = omega arith
+element-copy-out-above-if : tie.Need-element-copy-out-above-if Inv-loop μ-loop
+element-copy-out-above-if c = omega arith
 
 above-if-requires : tie.Need-above-if-requires Inv-loop μ-loop
 above-if-requires c κs = search needs
@@ -41,7 +41,7 @@ loop-less : tie.Need-loop-less Inv-loop μ-loop
 loop-less c = omega arith
 
 loop-again : tie.Need-loop-again Inv-loop μ-loop
-loop-again c = (omega arith, union-more _ (c .before .before .loop .r) _ (c .before .before .loop .inv .1) _ (c .above-if .ensures))
+loop-again c = (omega arith, union-more _ (c .before .before .before .loop .r) _ (c .before .before .before .loop .inv .1) _ (c .above-if .ensures))
 
 returns : tie.Need-returns Inv-loop μ-loop
 returns c = within-read _ _ _ (union-done _ (c .before .loop .r) _ (c .before .loop .inv .1) _ (omega arith) (omega arith))
@@ -55,7 +55,7 @@ upward-spec =
     loop-holds
     cast-above-if
     mul-above-if
-    array-read-above-if
+    element-copy-out-above-if
     above-if-requires
     add-r
     loop-less

@@ -24,13 +24,13 @@ enum-told-2 : tie.Need-enum-told-2
 enum-told-2 c = search needs
 
 returns : tie.Need-returns
-returns c = ap refusalOf (c .enum-told2 .given .1) ∙ forms-stop (c .before .before .before .before .before .before .before .args .t) (c .before .before .before .before .before .before .before .args .roles) (c .before .before .before .before .before .before .before .args .cs .now) (c .before .before .before .before .before .before .before .args .qs .now) (valueOf (c .before .before .before .before .before .before .before .args .want)) (c .before .before .before .before .before .before .before .args .s .now) (c .before .before .before .before .before .before .before .args .n) _ (c .before .before .before .layout-of .ensures) _ (sym (c .before .before .test-forms .ensures) ∙ ap refusalOf (c .enum-told2 .given .1))
+returns c = ap refusalOf (c .enum-told2 .given .1) ∙ forms-stop (c .before .before .before .before .before .before .before .args .m .now) (c .before .before .before .before .before .before .before .args .roles) (c .before .before .before .before .before .before .before .args .cs .now) (c .before .before .before .before .before .before .before .args .qs .now) (valueOf (c .before .before .before .before .before .before .before .args .want)) (c .before .before .before .before .before .before .before .args .s .now) (c .before .before .before .before .before .before .before .args .n) _ (c .before .before .before .layout-of .ensures) _ (sym (c .before .before .test-forms .ensures) ∙ ap refusalOf (c .enum-told2 .given .1))
 
 test-records-requires : tie.Need-test-records-requires
 test-records-requires c κs = search needs
 
 returns-2 : tie.Need-returns-2
-returns-2 c = c .test-records .ensures ∙ forms-on (c .before .before .before .before .before .before .before .before .args .t) (c .before .before .before .before .before .before .before .before .args .roles) (c .before .before .before .before .before .before .before .before .args .cs .now) (c .before .before .before .before .before .before .before .before .args .qs .now) (valueOf (c .before .before .before .before .before .before .before .before .args .want)) (c .before .before .before .before .before .before .before .before .args .s .now) (c .before .before .before .before .before .before .before .before .args .n) _ (c .before .before .before .before .layout-of .ensures) (sym (c .before .before .before .test-forms .ensures) ∙ ap refusalOf (c .before .enum-told .given .1))
+returns-2 c = c .test-records .ensures ∙ forms-on (c .before .before .before .before .before .before .before .before .args .m .now) (c .before .before .before .before .before .before .before .before .args .roles) (c .before .before .before .before .before .before .before .before .args .cs .now) (c .before .before .before .before .before .before .before .before .args .qs .now) (valueOf (c .before .before .before .before .before .before .before .before .args .want)) (c .before .before .before .before .before .before .before .before .args .s .now) (c .before .before .before .before .before .before .before .before .args .n) _ (c .before .before .before .before .layout-of .ensures) (sym (c .before .before .before .test-forms .ensures) ∙ ap refusalOf (c .before .enum-told .given .1))
 
 pub test-all-spec : {M : Type 1} → statement M
 test-all-spec =

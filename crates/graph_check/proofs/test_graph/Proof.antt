@@ -28,13 +28,13 @@ enum-told-2 : tie.Need-enum-told-2
 enum-told-2 c = search needs
 
 returns : tie.Need-returns
-returns c = let h = head-is-graph (c .before .before .before .before .before .before .before .before .args .s .now) _ (sym (c .before .before .head .given .1) ∙ c .before .before .before .before .read-head .ensures .0) in c .test-all .ensures ∙ head-on (c .before .before .before .before .before .before .before .before .args .t) (c .before .before .before .before .before .before .before .before .args .roles) (c .before .before .before .before .before .before .before .before .args .cs .now) (c .before .before .before .before .before .before .before .before .args .qs .now) (valueOf (c .before .before .before .before .before .before .before .before .args .want)) (c .before .before .before .before .before .before .before .before .args .s .now) _ (h .0) (h .1)
+returns c = let h = head-is-graph (c .before .before .before .before .before .before .before .before .args .s .now) _ (sym (c .before .before .head .given .1) ∙ c .before .before .before .before .read-head .ensures .0) in c .test-all .ensures ∙ head-on (c .before .before .before .before .before .before .before .before .args .m .now) (c .before .before .before .before .before .before .before .before .args .roles) (c .before .before .before .before .before .before .before .before .args .cs .now) (c .before .before .before .before .before .before .before .before .args .qs .now) (valueOf (c .before .before .before .before .before .before .before .before .args .want)) (c .before .before .before .before .before .before .before .before .args .s .now) _ (h .0) (h .1)
 
 returns-2 : tie.Need-returns-2
-returns-2 c = head-stop (c .before .before .before .before .before .before .args .t) (c .before .before .before .before .before .before .args .roles) (c .before .before .before .before .before .before .args .cs .now) (c .before .before .before .before .before .before .args .qs .now) (valueOf (c .before .before .before .before .before .before .args .want)) (c .before .before .before .before .before .before .args .s .now) (head-no-graph (c .before .before .before .before .before .before .args .s .now) _ (c .before .before .read-head .ensures .0) (λ n e. let z : _≡_ {A = ℕ} 0 1 = cc in omega arith))
+returns-2 c = head-stop (c .before .before .before .before .before .before .args .m .now) (c .before .before .before .before .before .before .args .roles) (c .before .before .before .before .before .before .args .cs .now) (c .before .before .before .before .before .before .args .qs .now) (valueOf (c .before .before .before .before .before .before .args .want)) (c .before .before .before .before .before .before .args .s .now) (head-no-graph (c .before .before .before .before .before .before .args .s .now) _ (c .before .before .read-head .ensures .0) (λ n e. let z : _≡_ {A = ℕ} 0 1 = cc in omega arith))
 
 returns-3 : tie.Need-returns-3
-returns-3 c = head-stop (c .before .before .before .before .before .before .args .t) (c .before .before .before .before .before .before .args .roles) (c .before .before .before .before .before .before .args .cs .now) (c .before .before .before .before .before .before .args .qs .now) (valueOf (c .before .before .before .before .before .before .args .want)) (c .before .before .before .before .before .before .args .s .now) (head-no-graph (c .before .before .before .before .before .before .args .s .now) _ (c .before .before .read-head .ensures .0) (λ n e. let z : _≡_ {A = ℕ} 0 1 = cc in omega arith))
+returns-3 c = head-stop (c .before .before .before .before .before .before .args .m .now) (c .before .before .before .before .before .before .args .roles) (c .before .before .before .before .before .before .args .cs .now) (c .before .before .before .before .before .before .args .qs .now) (valueOf (c .before .before .before .before .before .before .args .want)) (c .before .before .before .before .before .before .args .s .now) (head-no-graph (c .before .before .before .before .before .before .args .s .now) _ (c .before .before .read-head .ensures .0) (λ n e. let z : _≡_ {A = ℕ} 0 1 = cc in omega arith))
 
 pub test-graph-spec : {M : Type 1} → statement M
 test-graph-spec =

@@ -17,25 +17,25 @@ label-ok-requires : tie.Need-label-ok-requires
 label-ok-requires c κs = search needs
 
 returns : tie.Need-returns
-returns c = stops-11 (c .before .before .before .before .before .args .a) (c .before .before .before .before .before .args .roles) (c .before .before .before .before .before .args .cs .now) (c .before .before .before .before .before .args .src .now) (valueOf (c .before .before .before .before .before .args .need)) (labelOf (c .before .before .before .before .before .args .f) (c .before .before .before .before .before .args .s .now)) (c .before .before .before .before .before .args .n) (c .before .before .before .before .before .args .i) (valueOf (c .before .before .before .before .before .args .x)) (c .before .before .before .before .before .args .es .now) (sym (c .before .label-ok .ensures) ∙ not-true _ (c .if1 .taken))
+returns c = stops-11 (c .before .before .before .before .before .args .m .now) (c .before .before .before .before .before .args .roles) (c .before .before .before .before .before .args .cs .now) (c .before .before .before .before .before .args .src .now) (valueOf (c .before .before .before .before .before .args .need)) (labelOf (c .before .before .before .before .before .args .f) (c .before .before .before .before .before .args .s .now)) (c .before .before .before .before .before .args .n) (c .before .before .before .before .before .args .i) (valueOf (c .before .before .before .before .before .args .x)) (c .before .before .before .before .before .args .es .now) (sym (c .before .label-ok .ensures) ∙ not-true _ (c .if1 .taken))
 
 boths-ok-requires : tie.Need-boths-ok-requires
 boths-ok-requires c κs = search needs
 
 returns-2 : tie.Need-returns-2
-returns-2 c = stops-12 (c .before .before .before .before .before .before .before .args .a) (c .before .before .before .before .before .before .before .args .roles) (c .before .before .before .before .before .before .before .args .cs .now) (c .before .before .before .before .before .before .before .args .src .now) (valueOf (c .before .before .before .before .before .before .before .args .need)) (labelOf (c .before .before .before .before .before .before .before .args .f) (c .before .before .before .before .before .before .before .args .s .now)) (c .before .before .before .before .before .before .before .args .n) (c .before .before .before .before .before .before .before .args .i) (valueOf (c .before .before .before .before .before .before .before .args .x)) (c .before .before .before .before .before .before .before .args .es .now) (sym (c .before .before .before .label-ok .ensures) ∙ not-false _ (c .before .before .if1 .left)) (sym (c .before .boths-ok .ensures) ∙ not-true _ (c .if2 .taken))
+returns-2 c = stops-12 (c .before .before .before .before .before .before .before .args .m .now) (c .before .before .before .before .before .before .before .args .roles) (c .before .before .before .before .before .before .before .args .cs .now) (c .before .before .before .before .before .before .before .args .src .now) (valueOf (c .before .before .before .before .before .before .before .args .need)) (labelOf (c .before .before .before .before .before .before .before .args .f) (c .before .before .before .before .before .before .before .args .s .now)) (c .before .before .before .before .before .before .before .args .n) (c .before .before .before .before .before .before .before .args .i) (valueOf (c .before .before .before .before .before .before .before .args .x)) (c .before .before .before .before .before .before .before .args .es .now) (sym (c .before .before .before .label-ok .ensures) ∙ not-false _ (c .before .before .if1 .left)) (sym (c .before .boths-ok .ensures) ∙ not-true _ (c .if2 .taken))
 
 edges-ok-requires : tie.Need-edges-ok-requires
 edges-ok-requires c κs = search needs
 
 returns-3 : tie.Need-returns-3
-returns-3 c = stops-13 (c .before .before .before .before .before .before .before .before .before .args .a) (c .before .before .before .before .before .before .before .before .before .args .roles) (c .before .before .before .before .before .before .before .before .before .args .cs .now) (c .before .before .before .before .before .before .before .before .before .args .src .now) (valueOf (c .before .before .before .before .before .before .before .before .before .args .need)) (labelOf (c .before .before .before .before .before .before .before .before .before .args .f) (c .before .before .before .before .before .before .before .before .before .args .s .now)) (c .before .before .before .before .before .before .before .before .before .args .n) (c .before .before .before .before .before .before .before .before .before .args .i) (valueOf (c .before .before .before .before .before .before .before .before .before .args .x)) (c .before .before .before .before .before .before .before .before .before .args .es .now) (sym (c .before .before .before .before .before .label-ok .ensures) ∙ not-false _ (c .before .before .before .before .if1 .left)) (sym (c .before .before .before .boths-ok .ensures) ∙ not-false _ (c .before .before .if2 .left)) (sym (c .before .edges-ok .ensures) ∙ not-true _ (c .if3 .taken))
+returns-3 c = stops-13 (c .before .before .before .before .before .before .before .before .before .args .m .now) (c .before .before .before .before .before .before .before .before .before .args .roles) (c .before .before .before .before .before .before .before .before .before .args .cs .now) (c .before .before .before .before .before .before .before .before .before .args .src .now) (valueOf (c .before .before .before .before .before .before .before .before .before .args .need)) (labelOf (c .before .before .before .before .before .before .before .before .before .args .f) (c .before .before .before .before .before .before .before .before .before .args .s .now)) (c .before .before .before .before .before .before .before .before .before .args .n) (c .before .before .before .before .before .before .before .before .before .args .i) (valueOf (c .before .before .before .before .before .before .before .before .before .args .x)) (c .before .before .before .before .before .before .before .before .before .args .es .now) (sym (c .before .before .before .before .before .label-ok .ensures) ∙ not-false _ (c .before .before .before .before .if1 .left)) (sym (c .before .before .before .boths-ok .ensures) ∙ not-false _ (c .before .before .if2 .left)) (sym (c .before .edges-ok .ensures) ∙ not-true _ (c .if3 .taken))
 
 test-fillers-requires : tie.Need-test-fillers-requires
 test-fillers-requires c κs = search needs
 
 returns-4 : tie.Need-returns-4
-returns-4 c = c .test-fillers .ensures ∙ goes-on (c .before .before .before .before .before .before .before .before .before .before .args .a) (c .before .before .before .before .before .before .before .before .before .before .args .roles) (c .before .before .before .before .before .before .before .before .before .before .args .cs .now) (c .before .before .before .before .before .before .before .before .before .before .args .src .now) (valueOf (c .before .before .before .before .before .before .before .before .before .before .args .need)) (labelOf (c .before .before .before .before .before .before .before .before .before .before .args .f) (c .before .before .before .before .before .before .before .before .before .before .args .s .now)) (c .before .before .before .before .before .before .before .before .before .before .args .n) (c .before .before .before .before .before .before .before .before .before .before .args .i) (valueOf (c .before .before .before .before .before .before .before .before .before .before .args .x)) (c .before .before .before .before .before .before .before .before .before .before .args .es .now) (sym (c .before .before .before .before .before .before .label-ok .ensures) ∙ not-false _ (c .before .before .before .before .before .if1 .left)) (sym (c .before .before .before .before .boths-ok .ensures) ∙ not-false _ (c .before .before .before .if2 .left)) (sym (c .before .before .edges-ok .ensures) ∙ not-false _ (c .before .if3 .left))
+returns-4 c = c .test-fillers .ensures ∙ goes-on (c .before .before .before .before .before .before .before .before .before .before .args .m .now) (c .before .before .before .before .before .before .before .before .before .before .args .roles) (c .before .before .before .before .before .before .before .before .before .before .args .cs .now) (c .before .before .before .before .before .before .before .before .before .before .args .src .now) (valueOf (c .before .before .before .before .before .before .before .before .before .before .args .need)) (labelOf (c .before .before .before .before .before .before .before .before .before .before .args .f) (c .before .before .before .before .before .before .before .before .before .before .args .s .now)) (c .before .before .before .before .before .before .before .before .before .before .args .n) (c .before .before .before .before .before .before .before .before .before .before .args .i) (valueOf (c .before .before .before .before .before .before .before .before .before .before .args .x)) (c .before .before .before .before .before .before .before .before .before .before .args .es .now) (sym (c .before .before .before .before .before .before .label-ok .ensures) ∙ not-false _ (c .before .before .before .before .before .if1 .left)) (sym (c .before .before .before .before .boths-ok .ensures) ∙ not-false _ (c .before .before .before .if2 .left)) (sym (c .before .before .edges-ok .ensures) ∙ not-false _ (c .before .if3 .left))
 
 pub test-node-spec : {M : Type 1} → statement M
 test-node-spec =

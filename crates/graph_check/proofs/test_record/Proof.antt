@@ -20,7 +20,7 @@ test-node-requires : tie.Need-test-node-requires
 test-node-requires c κs = search needs
 
 returns : tie.Need-returns
-returns c = c .test-node .ensures ∙ record-read (c .before .before .before .before .before .args .a) (c .before .before .before .before .before .args .roles) (c .before .before .before .before .before .args .cs .now) (c .before .before .before .before .before .args .src .now) (valueOf (c .before .before .before .before .before .args .need)) (c .before .before .before .before .before .args .f) (c .before .before .before .before .before .args .s .now) (c .before .before .before .before .before .args .n) (c .before .before .before .before .before .args .i) _ _ (c .before .before .record-label .ensures) (c .before .record-edges .ensures)
+returns c = c .test-node .ensures ∙ record-read (c .before .before .before .before .before .args .m .now) (c .before .before .before .before .before .args .roles) (c .before .before .before .before .before .args .cs .now) (c .before .before .before .before .before .args .src .now) (valueOf (c .before .before .before .before .before .args .need)) (c .before .before .before .before .before .args .f) (c .before .before .before .before .before .args .s .now) (c .before .before .before .before .before .args .n) (c .before .before .before .before .before .args .i) _ _ (c .before .before .record-label .ensures) (c .before .record-edges .ensures)
 
 pub test-record-spec : {M : Type 1} → statement M
 test-record-spec =

@@ -17,16 +17,12 @@ use Rattle.graph_check.proofs.need_of.Reads as need-of-reads
 use Rattle.graph_check.proofs.test_record.Reads as test-record-reads
 use Rattle.labels.proofs.empty.Reads as empty-reads
 use Rattle.nodes.proofs.required.Reads as required-reads
-use Rattle.roles.proofs.ancestors_of.Reads as ancestors-of-reads
 
 abbrev Inv-loop : tie.InvT-loop
-Inv-loop roles cs qs s n f a src first later i₀ i = let code = recordsWith a roles cs src (valueOf first) (valueOf later) f s n in (i ≤ n) × (n < 256) × (refuseFrom code (n - i) i none ≡ refuseFrom code n 0 none)
+Inv-loop m roles cs qs s n f src first later i₀ i = let code = recordsWith m roles cs src (valueOf first) (valueOf later) f s n in (i ≤ n) × (n < 256) × (refuseFrom code (n - i) i none ≡ refuseFrom code n 0 none)
 
 abbrev μ-loop : tie.MeasureT-loop
-μ-loop roles cs qs s n f a src first later i₀ i = n - i
-
-ancestors-of-requires : tie.Need-ancestors-of-requires Inv-loop μ-loop
-ancestors-of-requires c κs = search needs
+μ-loop m roles cs qs s n f src first later i₀ i = n - i
 
 sources-requires : tie.Need-sources-requires Inv-loop μ-loop
 sources-requires c κs = search needs
@@ -56,7 +52,7 @@ enum-told-2 : tie.Need-enum-told-2 Inv-loop μ-loop
 enum-told-2 c = search needs
 
 returns : tie.Need-returns Inv-loop μ-loop
-returns c = ap refusalOf (c .enum-told2 .given .1) ∙ sym (records-stop _ _ _ (c .before .before .before .before .before .before .loop .i) _ (omega arith) (sym (ap (λ K. refuse (c .before .before .before .before .before .before .loop .i) (recordWith (c .before .before .before .before .before .before .before .before .before .before .before .ancestors-of .result) (c .before .before .before .before .before .before .before .before .before .before .before .before .before .before .before .args .roles) (c .before .before .before .before .before .before .before .before .before .before .before .before .before .before .before .args .cs .now) (c .before .before .before .before .before .before .before .before .before .before .sources .result) K (c .before .before .before .before .before .before .before .before .before .before .before .before .before .before .before .args .f) (c .before .before .before .before .before .before .before .before .before .before .before .before .before .before .before .args .s .now) (c .before .before .before .before .before .before .before .before .before .before .before .before .before .before .before .args .n) (c .before .before .before .before .before .before .loop .i)) none) (c .before .before .before .need-of .ensures)) ∙ sym (c .before .before .test-record .ensures) ∙ ap refusalOf (c .enum-told2 .given .1))) ∙ c .before .before .before .before .before .before .loop .inv .2 ∙ records-with (c .before .before .before .before .before .before .before .before .before .before .before .before .before .before .before .args .t) _ (c .before .before .before .before .before .before .before .before .before .before .before .before .before .before .before .args .roles) (c .before .before .before .before .before .before .before .before .before .before .before .before .before .before .before .args .cs .now) (c .before .before .before .before .before .before .before .before .before .before .sources .result) _ _ (c .before .before .before .before .before .before .before .before .before .before .before .before .before .before .before .args .f) (c .before .before .before .before .before .before .before .before .before .before .before .before .before .before .before .args .s .now) (c .before .before .before .before .before .before .before .before .before .before .before .before .before .before .before .args .n) (c .before .before .before .before .before .before .before .before .before .before .before .ancestors-of .ensures) (c .before .before .before .before .before .before .before .before .before .before .sources .ensures) ∙ ap₂ (λ first later. refuseFrom (recordFor (c .before .before .before .before .before .before .before .before .before .before .before .before .before .before .before .args .t) (c .before .before .before .before .before .before .before .before .before .before .before .before .before .before .before .args .roles) (c .before .before .before .before .before .before .before .before .before .before .before .before .before .before .before .args .cs .now) first later (c .before .before .before .before .before .before .before .before .before .before .before .before .before .before .before .args .f) (c .before .before .before .before .before .before .before .before .before .before .before .before .before .before .before .args .s .now) (c .before .before .before .before .before .before .before .before .before .before .before .before .before .before .before .args .n)) (c .before .before .before .before .before .before .before .before .before .before .before .before .before .before .before .args .n) 0 none) (c .before .before .before .before .before .before .before .before .before .required .ensures) (c .before .before .before .before .before .before .before .required2 .ensures ∙ ap (requiredSet (c .before .before .before .before .before .before .before .before .before .before .before .before .before .before .before .args .qs .now)) (c .before .before .before .before .before .before .before .before .empty .ensures))
+returns c = ap refusalOf (c .enum-told2 .given .1) ∙ sym (records-stop _ _ _ (c .before .before .before .before .before .before .loop .i) _ (omega arith) (sym (ap (λ K. refuse (c .before .before .before .before .before .before .loop .i) (recordWith (c .before .before .before .before .before .before .before .before .before .before .before .before .before .before .args .m .now) (c .before .before .before .before .before .before .before .before .before .before .before .before .before .before .args .roles) (c .before .before .before .before .before .before .before .before .before .before .before .before .before .before .args .cs .now) (c .before .before .before .before .before .before .before .before .before .before .sources .result) K (c .before .before .before .before .before .before .before .before .before .before .before .before .before .before .args .f) (c .before .before .before .before .before .before .before .before .before .before .before .before .before .before .args .s .now) (c .before .before .before .before .before .before .before .before .before .before .before .before .before .before .args .n) (c .before .before .before .before .before .before .loop .i)) none) (c .before .before .before .need-of .ensures)) ∙ sym (c .before .before .test-record .ensures) ∙ ap refusalOf (c .enum-told2 .given .1))) ∙ c .before .before .before .before .before .before .loop .inv .2 ∙ records-with (c .before .before .before .before .before .before .before .before .before .before .before .before .before .before .args .m .now) (c .before .before .before .before .before .before .before .before .before .before .before .before .before .before .args .roles) (c .before .before .before .before .before .before .before .before .before .before .before .before .before .before .args .cs .now) (c .before .before .before .before .before .before .before .before .before .before .sources .result) _ _ (c .before .before .before .before .before .before .before .before .before .before .before .before .before .before .args .f) (c .before .before .before .before .before .before .before .before .before .before .before .before .before .before .args .s .now) (c .before .before .before .before .before .before .before .before .before .before .before .before .before .before .args .n) (c .before .before .before .before .before .before .before .before .before .before .sources .ensures) ∙ ap₂ (λ first later. refuseFrom (recordFor (c .before .before .before .before .before .before .before .before .before .before .before .before .before .before .args .m .now) (c .before .before .before .before .before .before .before .before .before .before .before .before .before .before .args .roles) (c .before .before .before .before .before .before .before .before .before .before .before .before .before .before .args .cs .now) first later (c .before .before .before .before .before .before .before .before .before .before .before .before .before .before .args .f) (c .before .before .before .before .before .before .before .before .before .before .before .before .before .before .args .s .now) (c .before .before .before .before .before .before .before .before .before .before .before .before .before .before .args .n)) (c .before .before .before .before .before .before .before .before .before .before .before .before .before .before .args .n) 0 none) (c .before .before .before .before .before .before .before .before .before .required .ensures) (c .before .before .before .before .before .before .before .required2 .ensures ∙ ap (requiredSet (c .before .before .before .before .before .before .before .before .before .before .before .before .before .before .args .qs .now)) (c .before .before .before .before .before .before .before .before .empty .ensures))
 
 add-i : tie.Need-add-i Inv-loop μ-loop
 add-i c = omega arith
@@ -65,10 +61,10 @@ loop-less : tie.Need-loop-less Inv-loop μ-loop
 loop-less c = omega arith
 
 loop-again : tie.Need-loop-again Inv-loop μ-loop
-loop-again c = (omega arith, c .before .before .before .before .before .before .loop .inv .1, sym (records-on _ _ _ (c .before .before .before .before .before .before .loop .i) (omega arith) (sym (ap (λ K. refuse (c .before .before .before .before .before .before .loop .i) (recordWith (c .before .before .before .before .before .before .before .before .before .before .before .ancestors-of .result) (c .before .before .before .before .before .before .before .before .before .before .before .before .before .before .before .args .roles) (c .before .before .before .before .before .before .before .before .before .before .before .before .before .before .before .args .cs .now) (c .before .before .before .before .before .before .before .before .before .before .sources .result) K (c .before .before .before .before .before .before .before .before .before .before .before .before .before .before .before .args .f) (c .before .before .before .before .before .before .before .before .before .before .before .before .before .before .before .args .s .now) (c .before .before .before .before .before .before .before .before .before .before .before .before .before .before .before .args .n) (c .before .before .before .before .before .before .loop .i)) none) (c .before .before .before .need-of .ensures)) ∙ sym (c .before .before .test-record .ensures) ∙ ap refusalOf (c .enum-told .given .1))) ∙ c .before .before .before .before .before .before .loop .inv .2)
+loop-again c = (omega arith, c .before .before .before .before .before .before .loop .inv .1, sym (records-on _ _ _ (c .before .before .before .before .before .before .loop .i) (omega arith) (sym (ap (λ K. refuse (c .before .before .before .before .before .before .loop .i) (recordWith (c .before .before .before .before .before .before .before .before .before .before .before .before .before .before .args .m .now) (c .before .before .before .before .before .before .before .before .before .before .before .before .before .before .args .roles) (c .before .before .before .before .before .before .before .before .before .before .before .before .before .before .args .cs .now) (c .before .before .before .before .before .before .before .before .before .before .sources .result) K (c .before .before .before .before .before .before .before .before .before .before .before .before .before .before .args .f) (c .before .before .before .before .before .before .before .before .before .before .before .before .before .before .args .s .now) (c .before .before .before .before .before .before .before .before .before .before .before .before .before .before .args .n) (c .before .before .before .before .before .before .loop .i)) none) (c .before .before .before .need-of .ensures)) ∙ sym (c .before .before .test-record .ensures) ∙ ap refusalOf (c .enum-told .given .1))) ∙ c .before .before .before .before .before .before .loop .inv .2)
 
 returns-2 : tie.Need-returns-2 Inv-loop μ-loop
-returns-2 c = sym (records-end _ _ _ (c .before .loop .i) (omega arith)) ∙ c .before .loop .inv .2 ∙ records-with (c .before .before .before .before .before .before .before .before .before .before .args .t) _ (c .before .before .before .before .before .before .before .before .before .before .args .roles) (c .before .before .before .before .before .before .before .before .before .before .args .cs .now) (c .before .before .before .before .before .sources .result) _ _ (c .before .before .before .before .before .before .before .before .before .before .args .f) (c .before .before .before .before .before .before .before .before .before .before .args .s .now) (c .before .before .before .before .before .before .before .before .before .before .args .n) (c .before .before .before .before .before .before .ancestors-of .ensures) (c .before .before .before .before .before .sources .ensures) ∙ ap₂ (λ first later. refuseFrom (recordFor (c .before .before .before .before .before .before .before .before .before .before .args .t) (c .before .before .before .before .before .before .before .before .before .before .args .roles) (c .before .before .before .before .before .before .before .before .before .before .args .cs .now) first later (c .before .before .before .before .before .before .before .before .before .before .args .f) (c .before .before .before .before .before .before .before .before .before .before .args .s .now) (c .before .before .before .before .before .before .before .before .before .before .args .n)) (c .before .before .before .before .before .before .before .before .before .before .args .n) 0 none) (c .before .before .before .before .required .ensures) (c .before .before .required2 .ensures ∙ ap (requiredSet (c .before .before .before .before .before .before .before .before .before .before .args .qs .now)) (c .before .before .before .empty .ensures))
+returns-2 c = sym (records-end _ _ _ (c .before .loop .i) (omega arith)) ∙ c .before .loop .inv .2 ∙ records-with (c .before .before .before .before .before .before .before .before .before .args .m .now) (c .before .before .before .before .before .before .before .before .before .args .roles) (c .before .before .before .before .before .before .before .before .before .args .cs .now) (c .before .before .before .before .before .sources .result) _ _ (c .before .before .before .before .before .before .before .before .before .args .f) (c .before .before .before .before .before .before .before .before .before .args .s .now) (c .before .before .before .before .before .before .before .before .before .args .n) (c .before .before .before .before .before .sources .ensures) ∙ ap₂ (λ first later. refuseFrom (recordFor (c .before .before .before .before .before .before .before .before .before .args .m .now) (c .before .before .before .before .before .before .before .before .before .args .roles) (c .before .before .before .before .before .before .before .before .before .args .cs .now) first later (c .before .before .before .before .before .before .before .before .before .args .f) (c .before .before .before .before .before .before .before .before .before .args .s .now) (c .before .before .before .before .before .before .before .before .before .args .n)) (c .before .before .before .before .before .before .before .before .before .args .n) 0 none) (c .before .before .before .before .required .ensures) (c .before .before .required2 .ensures ∙ ap (requiredSet (c .before .before .before .before .before .before .before .before .before .args .qs .now)) (c .before .before .before .empty .ensures))
 
 pub test-records-spec : {M : Type 1} → statement M
 test-records-spec =
@@ -76,7 +72,6 @@ test-records-spec =
     (tie.spec
     Inv-loop
     μ-loop
-    ancestors-of-requires
     sources-requires
     required-requires
     empty-requires

@@ -15,7 +15,7 @@ test-graph-requires : tie.Need-test-graph-requires
 test-graph-requires c κs = search needs
 
 returns : tie.Need-returns
-returns c = c .test-graph .ensures ∙ ap (λ M. graphCode (c .before .before .before .before .before .args .t) (c .before .before .before .before .before .args .roles) (c .before .before .before .before .before .args .cs .now) (c .before .before .before .before .before .args .qs .now) M (c .before .before .before .before .before .args .s .now)) (c .before .root-set .ensures)
+returns c = c .test-graph .ensures ∙ ap (λ M. graphCode (c .before .before .before .before .before .args .m .now) (c .before .before .before .before .before .args .roles) (c .before .before .before .before .before .args .cs .now) (c .before .before .before .before .before .args .qs .now) M (c .before .before .before .before .before .args .s .now)) (c .before .root-set .ensures)
 
 pub test-sample-spec : {M : Type 1} → statement M
 test-sample-spec = tie.close (tie.spec root-set-requires test-graph-requires returns)

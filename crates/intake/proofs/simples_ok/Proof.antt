@@ -3,18 +3,20 @@ use mathlib.Core.Path.{_≡_, _∙_, sym}
 use mathlib.Core.Bool.{true}
 use borrow.Author.Tests.{not-true, not-false}
 use Rattle.logic.specs.Bounded.{allBelow, all-none, all-stop, all-more, all-done}
-use Rattle.intake.specs.Steps.{simpleAt}
+use Rattle.labels.specs.Labels.{mostEntries}
+use Rattle.intake.specs.Steps.{simpleAt, simple-read}
 use native.Mathlib.Omega.{arith}
 use borrow.Author.Needs.{needs}
 use Rattle.intake.proofs.simples_ok.Statement.{statement}
 use Rattle.intake.proofs.simples_ok.Tie as tie
 use Rattle.intake.proofs.simples_ok.Reads as reads
 use Rattle.intake.proofs.simples_ok.Lts as lts
-use Rattle.intake.proofs.simple_ok.Reads as simple-ok-reads
+use Rattle.intake.proofs.counts_simple.Reads as counts-simple-reads
 use Rattle.tables.proofs.entry_count.Reads as entry-count-reads
+use Rattle.tables.proofs.fields_at.Reads as fields-at-reads
 
 abbrev Inv-loop : tie.InvT-loop
-Inv-loop cs t n e₀ e = (e ≤ n) × (allBelow e (simpleAt cs t) ≡ true)
+Inv-loop cs t n e₀ e = (e ≤ n) × (allBelow e (simpleAt cs t) ≡ true) × (n ≤ mostEntries)
 
 abbrev μ-loop : tie.MeasureT-loop
 μ-loop cs t n e₀ e = n - e
@@ -23,13 +25,25 @@ entry-count-requires : tie.Need-entry-count-requires Inv-loop μ-loop
 entry-count-requires c κs = search needs
 
 loop-holds : tie.Need-loop-holds Inv-loop μ-loop
-loop-holds c = (omega arith, all-none _)
+loop-holds c = (omega arith, all-none _, c .entry-count .ensures .1)
 
-simple-ok-requires : tie.Need-simple-ok-requires Inv-loop μ-loop
-simple-ok-requires c κs = search needs
+fields-at-requires : tie.Need-fields-at-requires Inv-loop μ-loop
+fields-at-requires c κs = search needs
+
+cast-x : tie.Need-cast-x Inv-loop μ-loop
+cast-x c = search needs
+
+mul-x : tie.Need-mul-x Inv-loop μ-loop
+mul-x c = omega arith
+
+array-copy-out-x : tie.Need-array-copy-out-x Inv-loop μ-loop
+array-copy-out-x c = omega arith
+
+counts-simple-requires : tie.Need-counts-simple-requires Inv-loop μ-loop
+counts-simple-requires c κs = search needs
 
 returns : tie.Need-returns Inv-loop μ-loop
-returns c = sym (all-stop _ (c .before .before .before .loop .e) _ (omega (arith, c .before .before .before .before .entry-count .ensures .0)) (sym (c .before .simple-ok .ensures) ∙ not-true _ (c .if1 .taken)))
+returns c = sym (all-stop _ (c .before .before .before .before .before .before .loop .e) _ (omega (arith, c .before .before .before .before .before .before .before .entry-count .ensures .0)) (sym (c .before .counts-simple .ensures ∙ simple-read (c .before .before .before .before .before .before .before .before .before .args .cs .now) (c .before .before .before .before .before .before .before .before .before .args .t2) (c .before .before .before .before .before .before .loop .e) _ (c .before .before .before .before .fields-at .ensures .0)) ∙ not-true _ (c .if1 .taken)))
 
 add-e : tie.Need-add-e Inv-loop μ-loop
 add-e c = omega arith
@@ -38,7 +52,7 @@ loop-less : tie.Need-loop-less Inv-loop μ-loop
 loop-less c = omega arith
 
 loop-again : tie.Need-loop-again Inv-loop μ-loop
-loop-again c = (omega arith, all-more _ (c .before .before .before .loop .e) (c .before .before .before .loop .inv .1) (sym (c .before .simple-ok .ensures) ∙ not-false _ (c .if1 .left)))
+loop-again c = (omega arith, all-more _ (c .before .before .before .before .before .before .loop .e) (c .before .before .before .before .before .before .loop .inv .1) (sym (c .before .counts-simple .ensures ∙ simple-read (c .before .before .before .before .before .before .before .before .before .args .cs .now) (c .before .before .before .before .before .before .before .before .before .args .t2) (c .before .before .before .before .before .before .loop .e) _ (c .before .before .before .before .fields-at .ensures .0)) ∙ not-false _ (c .if1 .left)), c .before .before .before .before .before .before .loop .inv .2)
 
 returns-2 : tie.Need-returns-2 Inv-loop μ-loop
 returns-2 c = sym (all-done _ (c .before .loop .e) _ (omega (arith, c .before .before .entry-count .ensures .0)) (omega (arith, c .before .before .entry-count .ensures .0)) (c .before .loop .inv .1))
@@ -51,7 +65,11 @@ simples-ok-spec =
     μ-loop
     entry-count-requires
     loop-holds
-    simple-ok-requires
+    fields-at-requires
+    cast-x
+    mul-x
+    array-copy-out-x
+    counts-simple-requires
     returns
     add-e
     loop-less

@@ -31,7 +31,7 @@ same-length : tie.Need-same-length
 same-length c = c .before .before .close-roles .ensures .0 ∙ c .before .before .before .before .before .before .lay-rows .ensures .whole ∙ c .before .before .before .before .before .before .before .before .before .before .lay-names .ensures .whole ∙ length-set (c .before .before .before .before .before .before .before .before .before .before .before .before .before .before .before .before .args .buf .now) 0 (c .before .before .before .before .before .before .before .before .before .before .before .before .before .before .before .before .args .d)
 
 returns : tie.Need-returns
-returns c = lay-steps (c .before .before .before .before .before .before .before .before .before .before .before .before .before .before .before .before .args .t) (c .before .before .before .before .before .before .before .before .before .before .before .before .before .before .before .before .args .cs .now) (c .before .before .before .before .before .before .before .before .before .before .before .before .before .before .before .before .args .f) (c .before .before .before .before .before .before .before .before .before .before .before .before .before .before .before .before .args .s .now) (c .before .before .before .before .before .before .before .before .before .before .before .before .before .before .before .before .args .a) (c .before .before .before .before .before .before .before .before .before .before .before .before .before .before .before .before .args .k) (c .before .before .before .before .before .before .before .before .before .before .before .before .before .before .before .before .args .d) _ (c .before .before .before .before .before .before .before .before .before .before .before .before .before .before .before .before .args .buf .now) _ _ _ (omega arith) (c .before .before .before .before .before .before .before .before .before .before .before .before .rows-at .ensures .0) (c .before .before .before .before .before .before .before .before .before .before .lay-names .ensures) (c .before .before .before .before .before .before .lay-rows .ensures) (λ q. omega (arith, c .before .before .before .before .slice-known3 .given q)) (c .before .before .close-roles .ensures)
+returns c = lay-steps (c .before .before .before .before .before .before .before .before .before .before .before .before .before .before .before .before .args .t) (c .before .before .before .before .before .before .before .before .before .before .before .before .before .before .before .before .args .cs .now) (c .before .before .before .before .before .before .before .before .before .before .before .before .before .before .before .before .args .f) (c .before .before .before .before .before .before .before .before .before .before .before .before .before .before .before .before .args .s .now) (c .before .before .before .before .before .before .before .before .before .before .before .before .before .before .before .before .args .a .now) (c .before .before .before .before .before .before .before .before .before .before .before .before .before .before .before .before .args .k) (c .before .before .before .before .before .before .before .before .before .before .before .before .before .before .before .before .args .d) _ (c .before .before .before .before .before .before .before .before .before .before .before .before .before .before .before .before .args .buf .now) _ _ _ (omega arith) (c .before .before .before .before .before .before .before .before .before .before .before .before .rows-at .ensures .0) (c .before .before .before .before .before .before .before .before .before .before .lay-names .ensures) (c .before .before .before .before .before .before .lay-rows .ensures) (λ q. omega (arith, c .before .before .before .before .slice-known3 .given q)) (c .before .before .close-roles .ensures)
 
 pub lay-line-spec : {M : Type 1} → statement M
 lay-line-spec =

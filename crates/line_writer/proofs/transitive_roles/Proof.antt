@@ -1,9 +1,8 @@
-use Prim.Native.Nat.{_≤_, _-_}
+use Prim.Native.Nat.{_+_, _≤_, _-_}
 use mathlib.Core.Path.{_≡_, refl}
-use lib.Dec.{eqb}
-use Rattle.logic.specs.Sets.{setOf}
+use lib.ListN.{getD}
+use Rattle.logic.specs.Sets.{has, setOf}
 use Rattle.words.specs.Words.{set-none, set-more, in-word}
-use Rattle.roles.specs.Records.{roleAt}
 use Rattle.line_writer.specs.WriteSteps.{transitives-done}
 use native.Mathlib.Omega.{arith}
 use borrow.Author.Needs.{needs}
@@ -15,10 +14,10 @@ use Rattle.line_writer.proofs.with_transitive.Reads as with-transitive-
 use Rattle.parts.proofs.up_to.Reads as up-to-reads
 
 abbrev Inv-loop : tie.InvT-loop
-Inv-loop roles t n out₀ r₀ out r = (r ≤ n) × (n ≤ 16) × (out ≡ setOf r (λ r. eqb (roleAt t r .transitive) 1))
+Inv-loop a roles n out₀ r₀ out r = (r ≤ n) × (n ≤ 16) × (out ≡ setOf r (λ r. has (getD a (16 + r) 0) r))
 
 abbrev μ-loop : tie.MeasureT-loop
-μ-loop roles t n out₀ r₀ out r = n - r
+μ-loop a roles n out₀ r₀ out r = n - r
 
 up-to-requires : tie.Need-up-to-requires Inv-loop μ-loop
 up-to-requires c κs = search needs
@@ -26,14 +25,17 @@ up-to-requires c κs = search needs
 loop-holds : tie.Need-loop-holds Inv-loop μ-loop
 loop-holds c = (omega arith, c .up-to .ensures .1, set-none _)
 
-cast-x : tie.Need-cast-x Inv-loop μ-loop
-cast-x c = search needs
+add-with-transitive : tie.Need-add-with-transitive Inv-loop μ-loop
+add-with-transitive c = omega arith
 
-mul-x : tie.Need-mul-x Inv-loop μ-loop
-mul-x c = omega arith
+cast-with-transitive : tie.Need-cast-with-transitive Inv-loop μ-loop
+cast-with-transitive c = search needs
 
-array-copy-out-x : tie.Need-array-copy-out-x Inv-loop μ-loop
-array-copy-out-x c = omega arith
+mul-with-transitive : tie.Need-mul-with-transitive Inv-loop μ-loop
+mul-with-transitive c = omega arith
+
+element-copy-out-with-transitive : tie.Need-element-copy-out-with-transitive Inv-loop μ-loop
+element-copy-out-with-transitive c = omega arith
 
 with-transitive-requires : tie.Need-with-transitive-requires Inv-loop μ-loop
 with-transitive-requires c κs = search needs
@@ -45,13 +47,13 @@ loop-less : tie.Need-loop-less Inv-loop μ-loop
 loop-less c = omega arith
 
 loop-again : tie.Need-loop-again Inv-loop μ-loop
-loop-again c = let v = c .before .before .before .loop in (omega arith, v .inv .1, set-more _ (v .r) _ _ _ (v .inv .2) (in-word (v .r) _ _ (omega arith) refl) (c .with-transitive .ensures))
+loop-again c = (omega arith, c .before .before .before .loop .inv .1, set-more _ (c .before .before .before .loop .r) _ _ _ (c .before .before .before .loop .inv .2) (in-word (c .before .before .before .loop .r) _ _ (omega arith) refl) (c .with-transitive .ensures))
 
 cast-result : tie.Need-cast-result Inv-loop μ-loop
 cast-result c = search needs
 
 returns : tie.Need-returns Inv-loop μ-loop
-returns c = transitives-done (c .before .before .before .args .t1) (c .before .before .before .args .roles) _ _ _ (c .before .before .up-to .ensures .0) (c .before .loop .inv .1) (omega arith) (omega arith) (c .before .loop .inv .2)
+returns c = transitives-done (c .before .before .before .args .a .now) (c .before .before .before .args .roles) _ _ _ (c .before .before .up-to .ensures .0) (c .before .loop .inv .1) (omega arith) (omega arith) (c .before .loop .inv .2)
 
 pub transitive-roles-spec : {M : Type 1} → statement M
 transitive-roles-spec =
@@ -61,9 +63,10 @@ transitive-roles-spec =
     μ-loop
     up-to-requires
     loop-holds
-    cast-x
-    mul-x
-    array-copy-out-x
+    add-with-transitive
+    cast-with-transitive
+    mul-with-transitive
+    element-copy-out-with-transitive
     with-transitive-requires
     add-r
     loop-less

@@ -6,10 +6,6 @@ use Rattle.line_writer.proofs.write_interpretation.Statement.{statement
 use Rattle.line_writer.proofs.write_interpretation.Tie as tie
 use Rattle.line_writer.proofs.write_interpretation.Reads as reads
 use Rattle.line_writer.proofs.write_interpretation.Lts as lts
-use Rattle.intake.proofs.concepts_part.Reads as concepts-part-reads
-use Rattle.intake.proofs.open_description.Reads as open-description-reads
-use Rattle.intake.proofs.query_part.Reads as query-part-reads
-use Rattle.line_writer.proofs.write_opened.Reads as write-opened-reads
 
 open-description-requires : tie.Need-open-description-requires
 open-description-requires c κs = search needs
@@ -33,10 +29,10 @@ same-length : tie.Need-same-length
 same-length c = search needs
 
 returns : tie.Need-returns
-returns c = let o = c .before .before .before .before .before .before .before .before .before .open-description .ensures in write-opened (c .before .before .before .before .before .before .before .before .before .before .before .before .before .args .d .now) (c .before .before .before .before .before .before .before .before .before .before .before .before .before .args .s .now) (c .before .before .before .before .before .before .before .before .before .before .before .before .before .args .buf .now) _ _ _ _ _ _ (sym (ap refusalOf (c .before .before .before .before .before .before .enum-told .given .1)) ∙ o .tested) (o .roles) (o .count) (c .before .before .before .before .concepts-part .ensures) (c .before .before .before .query-part .ensures) (c .before .before .write-opened .ensures)
+returns c = write-opened (c .before .before .before .before .before .before .before .before .before .before .before .before .before .before .args .d .now) (c .before .before .before .before .before .before .before .before .before .before .before .before .before .before .args .s .now) (c .before .before .before .before .before .before .before .before .before .before .before .before .before .before .args .buf .now) _ _ _ _ _ _ (sym (ap refusalOf (c .before .before .before .before .before .before .before .enum-told .given .1)) ∙ c .before .before .before .before .before .before .before .before .before .before .open-description .ensures .tested) (c .before .before .before .before .before .before .before .before .before .before .open-description .ensures .masks) (c .before .before .before .before .before .before .before .before .before .before .open-description .ensures .count) (c .before .before .before .before .concepts-part .ensures) (c .before .before .before .query-part .ensures) (c .before .before .write-opened .ensures)
 
 returns-2 : tie.Need-returns-2
-returns-2 c = let o = c .before .before .before .before .open-description .ensures in write-refused (c .before .before .before .before .before .before .before .before .args .d .now) (c .before .before .before .before .before .before .before .before .args .s .now) (c .before .before .before .before .before .before .before .before .args .buf .now) _ _ (sym (ap refusalOf (c .before .tested .given .1)) ∙ o .tested)
+returns-2 c = write-refused (c .before .before .before .before .before .before .before .before .args .d .now) (c .before .before .before .before .before .before .before .before .args .s .now) (c .before .before .before .before .before .before .before .before .args .buf .now) _ _ (sym (ap refusalOf (c .before .tested .given .1)) ∙ c .before .before .before .before .open-description .ensures .tested)
 
 pub write-interpretation-spec : {M : Type 1} → statement M
 write-interpretation-spec =

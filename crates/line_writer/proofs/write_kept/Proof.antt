@@ -28,13 +28,13 @@ element-count-requires : tie.Need-element-count-requires
 element-count-requires c κs = search needs
 
 returns : tie.Need-returns
-returns c = told-of (c .before .before .before .before .before .before .before .before .args .t) (c .before .before .before .before .before .before .before .before .args .cs .now) (c .before .before .before .before .layout-of .result) (c .before .before .before .before .before .before .before .before .args .s .now) (c .before .before .before .before .before .before .before .before .args .a) (c .before .before .before .before .before .before .before .before .args .buf .now) _ _ (c .before .before .before .before .layout-of .ensures) (too-big (c .before .before .before .before .before .before .before .before .args .t) (c .before .before .before .before .before .before .before .before .args .cs .now) (c .before .before .before .before .layout-of .result) (c .before .before .before .before .before .before .before .before .args .s .now) (c .before .before .before .before .before .before .before .before .args .a) (c .before .before .before .before .before .before .before .before .args .buf .now) _ (size-read (c .before .before .before .before .layout-of .result) (c .before .before .before .before .before .before .before .before .args .s .now) _ _ _ (c .before .before .before .byte .ensures) (c .before .before .most-copies .ensures .0) (c .before .element-count .ensures)) (omega arith))
+returns c = told-of (c .before .before .before .before .before .before .before .before .args .t) (c .before .before .before .before .before .before .before .before .args .cs .now) (c .before .before .before .before .layout-of .result) (c .before .before .before .before .before .before .before .before .args .s .now) (c .before .before .before .before .before .before .before .before .args .a .now) (c .before .before .before .before .before .before .before .before .args .buf .now) _ _ (c .before .before .before .before .layout-of .ensures) (too-big (c .before .before .before .before .before .before .before .before .args .t) (c .before .before .before .before .before .before .before .before .args .cs .now) (c .before .before .before .before .layout-of .result) (c .before .before .before .before .before .before .before .before .args .s .now) (c .before .before .before .before .before .before .before .before .args .a .now) (c .before .before .before .before .before .before .before .before .args .buf .now) _ (size-read (c .before .before .before .before .layout-of .result) (c .before .before .before .before .before .before .before .before .args .s .now) _ _ _ (c .before .before .before .byte .ensures) (c .before .before .most-copies .ensures .0) (c .before .element-count .ensures)) (omega arith))
 
 line-length-requires : tie.Need-line-length-requires
 line-length-requires c κs = search needs
 
 returns-2 : tie.Need-returns-2
-returns-2 c = told-of (c .before .before .before .before .before .before .before .before .before .before .args .t) (c .before .before .before .before .before .before .before .before .before .before .args .cs .now) (c .before .before .before .before .before .before .layout-of .result) (c .before .before .before .before .before .before .before .before .before .before .args .s .now) (c .before .before .before .before .before .before .before .before .before .before .args .a) (c .before .before .before .before .before .before .before .before .before .before .args .buf .now) _ _ (c .before .before .before .before .before .before .layout-of .ensures) (too-short (c .before .before .before .before .before .before .before .before .before .before .args .t) (c .before .before .before .before .before .before .before .before .before .before .args .cs .now) (c .before .before .before .before .before .before .layout-of .result) (c .before .before .before .before .before .before .before .before .before .before .args .s .now) (c .before .before .before .before .before .before .before .before .before .before .args .a) (c .before .before .before .before .before .before .before .before .before .before .args .buf .now) _ (size-read (c .before .before .before .before .before .before .layout-of .result) (c .before .before .before .before .before .before .before .before .before .before .args .s .now) _ _ _ (c .before .before .before .before .before .byte .ensures) (c .before .before .before .before .most-copies .ensures .0) (c .before .before .before .element-count .ensures)) (omega arith) (omega arith))
+returns-2 c = told-of (c .before .before .before .before .before .before .before .before .before .before .args .t) (c .before .before .before .before .before .before .before .before .before .before .args .cs .now) (c .before .before .before .before .before .before .layout-of .result) (c .before .before .before .before .before .before .before .before .before .before .args .s .now) (c .before .before .before .before .before .before .before .before .before .before .args .a .now) (c .before .before .before .before .before .before .before .before .before .before .args .buf .now) _ _ (c .before .before .before .before .before .before .layout-of .ensures) (too-short (c .before .before .before .before .before .before .before .before .before .before .args .t) (c .before .before .before .before .before .before .before .before .before .before .args .cs .now) (c .before .before .before .before .before .before .layout-of .result) (c .before .before .before .before .before .before .before .before .before .before .args .s .now) (c .before .before .before .before .before .before .before .before .before .before .args .a .now) (c .before .before .before .before .before .before .before .before .before .before .args .buf .now) _ (size-read (c .before .before .before .before .before .before .layout-of .result) (c .before .before .before .before .before .before .before .before .before .before .args .s .now) _ _ _ (c .before .before .before .before .before .byte .ensures) (c .before .before .before .before .most-copies .ensures .0) (c .before .before .before .element-count .ensures)) (omega arith) (omega arith))
 
 cast-lay-line : tie.Need-cast-lay-line
 cast-lay-line c = search needs
@@ -49,7 +49,7 @@ same-length : tie.Need-same-length
 same-length c = search needs
 
 returns-3 : tie.Need-returns-3
-returns-3 c = let k = c .before .before .before .before .before .before .before .before .most-copies in let z = c .before .before .before .before .before .before .before .element-count in let v = copies-few (c .before .before .before .before .before .before .before .before .before .byte .result) (k .result) (z .result) (let b = c .before .before .before .before .before .before .before .before .before .byte .ensures in omega arith) (z .ensures) in told-of (c .before .before .before .before .before .before .before .before .before .before .before .before .before .before .args .t) (c .before .before .before .before .before .before .before .before .before .before .before .before .before .before .args .cs .now) (c .before .before .before .before .before .before .before .before .before .before .layout-of .result) (c .before .before .before .before .before .before .before .before .before .before .before .before .before .before .args .s .now) (c .before .before .before .before .before .before .before .before .before .before .before .before .before .before .args .a) (c .before .before .before .before .before .before .before .before .before .before .before .before .before .before .args .buf .now) _ _ (c .before .before .before .before .before .before .before .before .before .before .layout-of .ensures) (laid-out (c .before .before .before .before .before .before .before .before .before .before .before .before .before .before .args .t) (c .before .before .before .before .before .before .before .before .before .before .before .before .before .before .args .cs .now) (c .before .before .before .before .before .before .before .before .before .before .layout-of .result) (c .before .before .before .before .before .before .before .before .before .before .before .before .before .before .args .s .now) (c .before .before .before .before .before .before .before .before .before .before .before .before .before .before .args .a) (c .before .before .before .before .before .before .before .before .before .before .before .before .before .before .args .buf .now) (z .result) (size-read (c .before .before .before .before .before .before .before .before .before .before .layout-of .result) (c .before .before .before .before .before .before .before .before .before .before .before .before .before .before .args .s .now) _ _ _ (c .before .before .before .before .before .before .before .before .before .byte .ensures) (c .before .before .before .before .before .before .before .before .most-copies .ensures .0) (c .before .before .before .before .before .before .before .element-count .ensures)) _ _ (k .result) (c .before .before .before .before .before .line-length .result) (c .before .before .before .before .before .before .before .before .before .byte .ensures) (k .ensures .0) (omega arith) (c .before .before .before .before .before .line-length .ensures) (omega arith) (omega arith) (c .before .before .lay-line .ensures))
+returns-3 c = let k = c .before .before .before .before .before .before .before .before .most-copies in let z = c .before .before .before .before .before .before .before .element-count in let v = copies-few (c .before .before .before .before .before .before .before .before .before .byte .result) (k .result) (z .result) (let b = c .before .before .before .before .before .before .before .before .before .byte .ensures in omega arith) (z .ensures) in told-of (c .before .before .before .before .before .before .before .before .before .before .before .before .before .before .args .t) (c .before .before .before .before .before .before .before .before .before .before .before .before .before .before .args .cs .now) (c .before .before .before .before .before .before .before .before .before .before .layout-of .result) (c .before .before .before .before .before .before .before .before .before .before .before .before .before .before .args .s .now) (c .before .before .before .before .before .before .before .before .before .before .before .before .before .before .args .a .now) (c .before .before .before .before .before .before .before .before .before .before .before .before .before .before .args .buf .now) _ _ (c .before .before .before .before .before .before .before .before .before .before .layout-of .ensures) (laid-out (c .before .before .before .before .before .before .before .before .before .before .before .before .before .before .args .t) (c .before .before .before .before .before .before .before .before .before .before .before .before .before .before .args .cs .now) (c .before .before .before .before .before .before .before .before .before .before .layout-of .result) (c .before .before .before .before .before .before .before .before .before .before .before .before .before .before .args .s .now) (c .before .before .before .before .before .before .before .before .before .before .before .before .before .before .args .a .now) (c .before .before .before .before .before .before .before .before .before .before .before .before .before .before .args .buf .now) (z .result) (size-read (c .before .before .before .before .before .before .before .before .before .before .layout-of .result) (c .before .before .before .before .before .before .before .before .before .before .before .before .before .before .args .s .now) _ _ _ (c .before .before .before .before .before .before .before .before .before .byte .ensures) (c .before .before .before .before .before .before .before .before .most-copies .ensures .0) (c .before .before .before .before .before .before .before .element-count .ensures)) _ _ (k .result) (c .before .before .before .before .before .line-length .result) (c .before .before .before .before .before .before .before .before .before .byte .ensures) (k .ensures .0) (omega arith) (c .before .before .before .before .before .line-length .ensures) (omega arith) (omega arith) (c .before .before .lay-line .ensures))
 
 pub write-kept-spec : {M : Type 1} → statement M
 write-kept-spec =

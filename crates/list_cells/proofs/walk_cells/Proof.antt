@@ -33,13 +33,13 @@ use Rattle.parts.proofs.up_to.Reads as up-to-reads
 use Rattle.rows.proofs.cell_count.Reads as cell-count-reads
 
 abbrev Inv-loop : tie.InvT-loop
-Inv-loop cs s k ds f n end above own against shown from₀ cells₀ changes₀ from cells changes =
+Inv-loop cs m s k ds f n end above own against shown from₀ cells₀ changes₀ from cells changes =
     (cells + 1 ≤ end) × (end ≤ 64) × (n ≤ 6) × (end ≡ 2 ^ n)
     × (allBelow (cells + 1) (gatheredOn (labelOf f s) above own shown against ds n) ≡ true)
     × (changes ≡ changesUpTo cells) × Walked above cells from
 
 abbrev μ-loop : tie.MeasureT-loop
-μ-loop cs s k ds f n end above own against shown from₀ cells₀ changes₀ from cells changes = end - cells
+μ-loop cs m s k ds f n end above own against shown from₀ cells₀ changes₀ from cells changes = end - cells
 
 -- what is read before the loop
 abbrev found : tie.After-shown-of Inv-loop μ-loop → tie.After-cell-count Inv-loop μ-loop
@@ -56,10 +56,10 @@ test c = let g = start c .args in
 
 -- is the one by the rows
 told : (c : tie.After-shown-of Inv-loop μ-loop) (m : ℕ) → let g = start c .args in
-    test c m ≡ cellFine (g .cs .now) (g .table) (labelOf (g .f) (g .s .now)) (valueOf (g .x)) (rowsHeld (g .rows) (upTo 6 (g .k)))
+    test c m ≡ cellFine (g .cs .now) (g .m .now) (labelOf (g .f) (g .s .now)) (valueOf (g .x)) (rowsHeld (g .rows) (upTo 6 (g .k)))
     (g .ds .now) (upTo 6 (g .k)) m
 told c m = let g = start c .args in let n = found c .before .up-to in let b = c .before .before .before .above-of in
-    cell-told (g .table) (g .rows) (n .result) (n .ensures .1) _ (b .ensures .0) (g .cs .now) (valueOf (g .x)) _ _ _
+    cell-told (g .m .now) (g .rows) (n .result) (n .ensures .1) _ (b .ensures .0) (g .cs .now) (valueOf (g .x)) _ _ _
     (c .shown-of .ensures) (c .before .against-of .ensures) (c .before .before .own-of .ensures) (b .ensures .1)
     (labelOf (g .f) (g .s .now)) (g .ds .now) _ (n .ensures .0) m
 
