@@ -209,11 +209,44 @@ static bool several_presses(void)
     return right;
 }
 
+/* The line of four_sensors with a fixed probe that is a standby probe, too: the vat has all that it asks for, but the two roles share a
+ * filler. */
+static bool shared_probe(struct bytes description, struct bytes sample)
+{
+    enum { FIXED = 1, STANDBY = 2, COPIES = 4 }; /* the roles; the copies of the sample's records: the vat is 0, its probes are 4 to 7 */
+    if (shq_word(shq_write(description.at, description.length, sample.at, sample.length, buffer, sizeof buffer)) != SHQ_WRITTEN)
+        return false;
+    size_t d = buffer[0], entries = shq_entries(description.at, description.length);
+    uint8_t *byte = buffer + 1 + SHQ_NAME_BYTES(entries) * d + 2 * COPIES + 1; /* low byte of the roles from the vat to its first probe */
+    bool fixed = (*byte >> FIXED & 1) && !(*byte >> STANDBY & 1);
+    *byte |= 1 << STANDBY;
+    uint32_t shared = shq_read(description.at, description.length, buffer, SHQ_LINE_BYTES(entries, d));
+    printf("four sensors, the line with a probe of both kinds: it %s\n", shq_word(shared) == SHQ_FAILS ? "FAILS" : "does not fail");
+    return as_expected(shared, SHQ_FAILS * 65536UL) && fixed;
+}
+
+/* A fixed probe is never a standby probe. */
+static bool kinds_of_probe(void)
+{
+    static const struct bytes three = BYTES(fixed_probe_description), three_list = BYTES(fixed_probe_list);
+    static const struct bytes cited = BYTES(fixed_probe_cited_cell), shared = BYTES(fixed_probe_shared_probe);
+    static const struct bytes four = BYTES(four_sensors_description), four_sample = BYTES(four_sensors_graph);
+
+    bool right = weigh("three sensors, a list", three, three_list, SHQ_EMPTY * 65536UL);
+    right &= weigh("three sensors, a barred cell that cites", three, cited, 18 * 256 + 1);
+    right &= weigh("three sensors, probes of both kinds", three, shared, 13 * 256);
+    right &= weigh("four sensors, a sample", four, four_sample, SHQ_INHABITED * 65536UL);
+    right &= no_line(three, shared, 13);
+    right &= shared_probe(four, four_sample);
+    return right;
+}
+
 int main(void)
 {
     bool right = plain_questions();
     right &= claims();
     right &= several_presses();
+    right &= kinds_of_probe();
     puts(right ? "all as expected" : "NOT as expected");
     return right ? 0 : 1;
 }

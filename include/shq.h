@@ -49,12 +49,13 @@ static inline unsigned shq_number(uint32_t answer) { return (unsigned)(answer >>
 static inline unsigned shq_record(uint32_t answer) { return (unsigned)(answer & 255); }
 
 /* The numbers of refusals. The first that applies is answered, in the order of FORMAT 8, and of FORMAT 11 for a claim. The record is that
- * of the evidence that breaks the rule, from 0; of 20 it is the last, and of 1 to 9 and 21 to 25 it is 0. Of a state that it
+ * of the evidence that breaks the rule, from 0; of 20 it is the last, and of 1 to 9 and 21 to 26 it is 0. Of a state that it
  * made the editor answers 2 to 8, 22 and 25, in the order that is told below.
  *
- *    1  directory      the description is shorter than its head, or its three parts do not fill it one after another
- *    2  part           roles, concepts or question have a length that is no whole number of items, or too few or too many; of
- *                      shq_edit_write: a role, an entry or the root is not put in yet
+ *    1  directory      the description is shorter than its head, or its three parts, four if the first offset is 16, do not fill it one
+ *                      after another
+ *    2  part           roles, concepts, question or the fourth part have a length that is no whole number of items, or too few or too
+ *                      many; of shq_edit_write: a role, an entry or the root is not put in yet
  *    3  role           a transitive byte above 1, or an inclusion in a role that is not there; of shq_edit_inclusion: either role is not
  *    4  entry          a field of a concept entry that its kind does not allow
  *    5  simple         "at least" on a role that is transitive or includes a transitive one; of shq_edit_inclusion: it would make it so
@@ -65,12 +66,15 @@ static inline unsigned shq_record(uint32_t answer) { return (unsigned)(answer & 
  *   10  form           a record of a length, step or shape that there is not, so also a graph with labels of the other width
  *   11  label          a graph's label with a literal too many, too few, or beside its opposite
  *   12  both           a "both" in a label without its two literals, or its complement without the opposite of one
- *   13  edge           an edge with a target, a set of roles or a count that there cannot be
+ *   13  edge           an edge with a target, a set of roles or a count that there cannot be, so also with two roles that never share a
+ *                      filler
  *   14  every          an edge to a target that an "every" does not allow, or no edge that its complement asks for
  *   15  count          an "at least" with too few fillers, or its complement with too many or with undecided ones
- *   16  cite           a closing record names a record that does not come before it, or a literal, an entry or a rule that there is not
+ *   16  cite           a closing record names a record that does not come before it, or a literal, an entry or a rule that there is not;
+ *                      with three parts also a cell byte of 254
  *   17  step           a step does not follow, or a counting step's rows are not rows of its label, rising
- *   18  cell           a cell is shut by a record that does not fit what is known of its fillers
+ *   18  cell           a cell is shut by a record that does not fit what is known of its fillers; with four parts also a cell that its
+ *                      roles bar and that has not the byte 254, or another that has
  *   19  tree           a counting step's tree splits what it may not, or a leaf leaves its limits open
  *   20  end            the last record rules out less than is wanted: that nothing has the root, or what a claim wants of a list
  *   21  big            the line would have 65 elements or more
@@ -78,11 +82,13 @@ static inline unsigned shq_record(uint32_t answer) { return (unsigned)(answer & 
  *   23  line form      a line of a wrong length, of no elements or more than 64, or with a name or role that there is not
  *   24  claim          C or D is no literal of the table, or no answer has pieces of these kinds in this order
  *   25  full           the editor's table of roles, entries or rules has as many as there may be: 16, 64 and 16
+ *   26  disjoint       a record of two roles that never share a filler names a role that is not there, the same role twice, or a role
+ *                      that is transitive or includes a transitive one; it comes right after 8
  */
 
 /* The most bytes that each can have without a refusal: a graph, as INHABITED or in a claim; a list, as EMPTY or for HOLDS OF NOTHING, and
  * for HOLDS; evidence, to pass test 9. */
-#define SHQ_DESCRIPTION_MOST 461
+#define SHQ_DESCRIPTION_MOST 497 /* the editor's have three parts, and 461 at most */
 #define SHQ_GRAPH_MOST 11522
 #define SHQ_LIST_MOST 65557
 #define SHQ_CLAIM_LIST_MOST 69394
@@ -104,7 +110,7 @@ static inline size_t shq_entries(const uint8_t *description, size_t description_
 /* The bytes of a line of d elements, of a description with so many entries; d is the line's first byte, 1 to 64. */
 #define SHQ_LINE_BYTES(entries, d) ((size_t)1 + SHQ_NAME_BYTES(entries) * (size_t)(d) + 2 * (size_t)(d) * (size_t)(d))
 
-/* Weighs evidence: SHQ_INHABITED, SHQ_EMPTY, or SHQ_REFUSED with 1 to 20. */
+/* Weighs evidence: SHQ_INHABITED, SHQ_EMPTY, or SHQ_REFUSED with 1 to 20 or 26. */
 uint32_t shq_check(const uint8_t *description, size_t description_length,
                    const uint8_t *evidence, size_t evidence_length);
 
@@ -116,8 +122,8 @@ uint32_t shq_check(const uint8_t *description, size_t description_length,
  *                         Asked for: a graph with C and the opposite of D in record 0; no second piece.
  *   SHQ_HOLDS_OF_NOTHING  no finite line of any size has an element with C: the claim is true, and says nothing of any line.
  *                         Asked for: a list that ends with no literal but 0 and C; no second piece.
- *   SHQ_REFUSED           with 1 to 20 or 24, in this order: 1 to 8; 24 of C and D; 9 of the first piece, and of the second if it is not
- *                         empty; 24 of the pieces' kinds; 10 to 20 of the first piece, then of the second. From 10 on the record
+ *   SHQ_REFUSED           with 1 to 20, 24 or 26, in this order: 1 to 8; 26; 24 of C and D; 9 of the first piece, and of the second if it
+ *                         is not empty; 24 of the pieces' kinds; 10 to 20 of the first piece, then of the second. From 10 on the record
  *                         counts within the piece that is refused; the answer does not say which of the two that is.
  *
  * No second piece is a length of 0; its pointer may not be NULL all the same. shq_write asks for the root: it writes the graph of a claim
@@ -126,14 +132,14 @@ uint32_t shq_claim(const uint8_t *description, size_t description_length, uint8_
                    const uint8_t *first, size_t first_length,
                    const uint8_t *second, size_t second_length);
 
-/* Writes the line of a sample graph: SHQ_WRITTEN, or SHQ_REFUSED with 1 to 15, 21 or 22.
+/* Writes the line of a sample graph: SHQ_WRITTEN, or SHQ_REFUSED with 1 to 15, 21, 22 or 26.
  * It is written exactly if shq_check answers SHQ_INHABITED, 64 elements are enough and so is the buffer.
  * What it wrote, SHQ_LINE_BYTES(shq_entries(description, description_length), buffer[0]) bytes, shq_read answers with SHQ_HOLDS. */
 uint32_t shq_write(const uint8_t *description, size_t description_length,
                    const uint8_t *evidence, size_t evidence_length,
                    uint8_t *buffer, size_t buffer_length);
 
-/* Reads a line by the meaning of SHQ: SHQ_HOLDS, SHQ_FAILS, or SHQ_REFUSED with 1 to 8 or 23. */
+/* Reads a line by the meaning of SHQ: SHQ_HOLDS, SHQ_FAILS, or SHQ_REFUSED with 1 to 8, 23 or 26. */
 uint32_t shq_read(const uint8_t *description, size_t description_length,
                   const uint8_t *line, size_t line_length);
 
@@ -154,10 +160,10 @@ uint32_t shq_read(const uint8_t *description, size_t description_length,
  *   shq_edit_write      writes the description out: SHQ_WRITTEN, or 22 if the state has too few bytes, then 2, then 22 if the buffer has.
  *
  * Of a state made by these alone, what is written out is exactly what was put in, each part in the order of the calls, and shq_check never
- * refuses it with 1 to 8. It has SHQ_EDITOR_WRITES(state) bytes.
+ * refuses it with 1 to 8 or 26. It has SHQ_EDITOR_WRITES(state) bytes.
  *
  * Bytes that no operation made are safe to lend: the answer is SHQ_DONE, SHQ_WRITTEN or a refusal, no byte changes but the
- * SHQ_EDITOR_BYTES of the state or what is written to the buffer, SHQ_DESCRIPTION_MOST at most, and a refusal leaves them all. But what
+ * SHQ_EDITOR_BYTES of the state or what is written to the buffer, 461 bytes at most, and a refusal leaves them all. But what
  * is then written out may be a description that shq_check refuses, and SHQ_EDITOR_WRITES(state) need not be its length. */
 #define SHQ_EDITOR_BYTES 453
 #define SHQ_EDITOR_WRITES(state) ((size_t)13 + 3 * (size_t)(state)[0] + 6 * (size_t)(state)[1] + (size_t)(state)[3])

@@ -3,8 +3,8 @@
 use crate::compare::Comparison;
 use ::compare::encode;
 use ::compare::make::claims::{self, Claim, Piece};
-use ::compare::make::refutations::{self, Known};
-use ::compare::make::spoil_claim::{spoiled, Given};
+use ::compare::make::refutations;
+use ::compare::make::spoil_claim::{kept_apart, spoiled, Given};
 use ::compare::make::{cells, damage, descriptions};
 use ::compare::paper::description::Description;
 use ::compare::paper::label::{opposite, Label};
@@ -44,6 +44,17 @@ fn with_changes(
     for _ in 0..changes {
         c.claim(&spoiled(r, description, claim, before));
     }
+    if description.apart.is_some() {
+        // A list can show more of the errors than a graph.
+        let changes = match (&claim.first, &claim.second) {
+            (Piece::Graph(_), _) => 8,
+            (Piece::List(_), None) => 20,
+            (Piece::List(_), Some(_)) => 32,
+        };
+        for _ in 0..changes {
+            c.claim(&kept_apart(r, description, claim));
+        }
+    }
 }
 
 /// The first piece is a list whose cells cite other records.
@@ -66,7 +77,7 @@ fn with_cells(r: &mut Random, c: &mut Comparison, description: &Description, cla
 
 /// The first piece is a list that rests on an error about cells.
 fn with_error(r: &mut Random, c: &mut Comparison, description: &Description, whole: &Given) {
-    let known = r.pick(&[Known::Denied, Known::Reached, Known::Carried]);
+    let known = r.pick(refutations::errors(description));
     let exception = Label::of(&[whole.c, opposite(whole.d)]);
     if let Some(closings) = refutations::search(r, description, exception, known, 1) {
         let mut given = whole.clone();

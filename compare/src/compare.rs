@@ -1,11 +1,12 @@
 //! Holds the library's answers against the paper's and counts them.
 
 use crate::library;
-use compare::answers::{code, hex, told, WORDS};
+use compare::answers::{self, code, hex, WORDS};
+use compare::apart::{self, Asked, Input, LAPSES};
 use compare::make::spoil_claim::Given;
 use compare::paper;
-use compare::paper::label::{Width, WIDTHS};
-use compare::paper::Answer;
+use compare::paper::description::pairs_of;
+use compare::paper::label::Width;
 use compare::walks::{self, WALKS};
 
 /// Bytes before and after a buffer that the writer must leave alone.
@@ -21,10 +22,21 @@ pub enum Kind {
 
 pub const KINDS: [Kind; 3] = [Kind::Plain, Kind::OnePiece, Kind::TwoPieces];
 
-/// The numbers of refusals, and 0.
-pub const NUMBERS: usize = 25;
+/// What is told of a description: the width by the length of its table, right or wrong, and, at
+/// either width, that it has four pairs.
+#[derive(Clone, Copy, PartialEq, Eq)]
+pub enum Told {
+    Narrow,
+    Wide,
+    FourPairs,
+}
 
-/// The answers to inputs of one kind at one width.
+pub const TOLD: [Told; 3] = [Told::Narrow, Told::Wide, Told::FourPairs];
+
+/// The numbers of refusals, and 0.
+pub const NUMBERS: usize = 27;
+
+/// The answers to inputs of one kind with descriptions of which the same is told.
 #[derive(Default)]
 pub struct Tally {
     /// How often each word came.
@@ -33,6 +45,8 @@ pub struct Tally {
     pub refusals: [usize; NUMBERS],
     /// How often a wrong walk over cells would have changed the answer.
     pub walks: [usize; WALKS.len()],
+    /// How often an error about roles that never share a filler would have.
+    pub lapses: [usize; LAPSES],
 }
 
 impl Tally {
@@ -44,34 +58,36 @@ impl Tally {
 #[derive(Default)]
 pub struct Comparison {
     pub differences: usize,
-    tallies: [[Tally; WIDTHS.len()]; KINDS.len()],
+    tallies: [[Tally; TOLD.len()]; KINDS.len()],
 }
 
 impl Comparison {
-    pub fn tally(&self, kind: Kind, width: Width) -> &Tally {
-        &self.tallies[kind as usize][width as usize]
+    pub fn tally(&self, kind: Kind, told: Told) -> &Tally {
+        &self.tallies[kind as usize][told as usize]
     }
 
     pub fn inputs(&self) -> usize {
-        self.tallies.iter().flatten().map(Tally::inputs).sum()
+        let widths = [Told::Narrow, Told::Wide];
+        let both = |kind| widths.map(|told| self.tally(kind, told).inputs());
+        KINDS.iter().flat_map(|&kind| both(kind)).sum()
     }
 
     pub fn check(&mut self, description: &[u8], evidence: &[u8]) {
-        let answer = paper::check(description, evidence);
-        self.count_walks(Kind::Plain, description, evidence, answer);
-        let expected = code(answer);
+        let asked = Asked::new(description, Input::Check(evidence));
+        let expected = self.expected(Kind::Plain, &asked);
         let (d, e) = (self.placed(description), self.placed(evidence));
         let found = library::check(d.bytes(), e.bytes());
-        if !self.count(Kind::Plain, description, expected, found) {
+        if !self.same(expected, found) {
             tell("check", expected, found, &[description, evidence]);
         }
     }
 
     pub fn read(&mut self, description: &[u8], line: &[u8]) {
-        let expected = code(paper::read(description, line));
+        let asked = Asked::new(description, Input::Read(line));
+        let expected = self.expected(Kind::Plain, &asked);
         let (d, l) = (self.placed(description), self.placed(line));
         let found = library::read(d.bytes(), l.bytes());
-        if !self.count(Kind::Plain, description, expected, found) {
+        if !self.same(expected, found) {
             tell("read", expected, found, &[description, line]);
         }
     }
@@ -84,13 +100,17 @@ impl Comparison {
             true => Kind::OnePiece,
             false => Kind::TwoPieces,
         };
-        let answer = paper::claim(description, c, d, first, second);
-        self.count_walks(kind, description, first, answer);
-        let expected = code(answer);
+        let input = Input::Claim {
+            c,
+            d,
+            first,
+            second,
+        };
+        let expected = self.expected(kind, &Asked::new(description, input));
         let placed = slices.map(|slice| self.placed(slice));
         let [in_description, in_first, in_second] = placed.each_ref().map(Placed::bytes);
         let found = library::claim(in_description, c, d, in_first, in_second);
-        if !self.count(kind, description, expected, found) {
+        if !self.same(expected, found) {
             println!("C {c}, D {d}:");
             tell("claim", expected, found, &slices);
         }
@@ -102,11 +122,15 @@ impl Comparison {
         let mut ours: Vec<u8> = (0..room + 2 * GUARD).map(pattern).collect();
         let mut theirs = ours.clone();
         let middle = GUARD..GUARD + room;
-        let answer = paper::write(description, evidence, &mut ours[middle.clone()]);
-        let expected = code(answer);
+        let asked = Asked {
+            description,
+            input: Input::Write(evidence, room),
+            answer: paper::write(description, evidence, &mut ours[middle.clone()]),
+        };
+        let expected = self.expected(Kind::Plain, &asked);
         let (d, e) = (self.placed(description), self.placed(evidence));
         let found = library::write(d.bytes(), e.bytes(), &mut theirs[middle]);
-        let same = self.count(Kind::Plain, description, expected, found);
+        let same = self.same(expected, found);
         if same && ours == theirs {
             return;
         }
@@ -131,36 +155,52 @@ impl Comparison {
         }
     }
 
-    /// Counts the walks over cells that would not have given this answer.
-    fn count_walks(&mut self, kind: Kind, description: &[u8], evidence: &[u8], answer: Answer) {
-        let tally = &mut self.tallies[kind as usize][told_width(description) as usize];
-        let shown = walks::shown(description, evidence, answer);
-        for (count, shown) in tally.walks.iter_mut().zip(shown) {
-            *count += shown as usize;
+    /// The paper's answer, counted with the errors that would have given another.
+    fn expected(&mut self, kind: Kind, asked: &Asked) -> u32 {
+        let expected = code(asked.answer);
+        let list = asked.list();
+        let walks = list.as_ref().map_or([false; WALKS.len()], walks::shown);
+        let lapses = apart::shown(asked, list.as_ref());
+        for told in told(asked.description) {
+            let tally = &mut self.tallies[kind as usize][told as usize];
+            tally.words[(expected >> 16) as usize] += 1;
+            if expected < 65536 {
+                tally.refusals[(expected >> 8) as usize] += 1;
+            }
+            add(&mut tally.walks, &walks);
+            add(&mut tally.lapses, &lapses);
         }
+        expected
     }
 
-    /// Counts an input; false if the answers differ.
-    fn count(&mut self, kind: Kind, description: &[u8], expected: u32, found: u32) -> bool {
-        let tally = &mut self.tallies[kind as usize][told_width(description) as usize];
-        tally.words[(expected >> 16) as usize] += 1;
-        if expected < 65536 {
-            tally.refusals[(expected >> 8) as usize] += 1;
-        }
+    /// Are the answers the same? If not, they count as a difference.
+    fn same(&mut self, expected: u32, found: u32) -> bool {
         let same = expected == found;
         self.differences += !same as usize;
         same
     }
 }
 
-/// The width by the table's length as the description tells it, right or wrong.
-fn told_width(description: &[u8]) -> Width {
-    match description {
-        [_, _, _, _, _, _, high, low, ..] => {
-            Width::of_table(u16::from_be_bytes([*high, *low]) as usize / 6)
-        }
-        _ => Width::Narrow,
+fn add(counts: &mut [usize], shown: &[bool]) {
+    for (count, shown) in counts.iter_mut().zip(shown) {
+        *count += *shown as usize;
     }
+}
+
+/// What is told of a description.
+fn told(description: &[u8]) -> Vec<Told> {
+    let entries = match description {
+        [_, _, _, _, _, _, high, low, ..] => u16::from_be_bytes([*high, *low]) as usize / 6,
+        _ => 0,
+    };
+    let mut told = vec![match Width::of_table(entries) {
+        Width::Narrow => Told::Narrow,
+        Width::Wide => Told::Wide,
+    }];
+    if pairs_of(description) == 4 {
+        told.push(Told::FourPairs);
+    }
+    told
 }
 
 /// A slice amid bytes that do not belong to it, not always at an even address.
@@ -177,7 +217,7 @@ impl Placed {
 }
 
 fn tell(function: &str, expected: u32, found: u32, slices: &[&[u8]]) {
-    let (expected, found) = (told(expected), told(found));
+    let (expected, found) = (answers::told(expected), answers::told(found));
     println!("DIFFERENCE in {function}: paper {expected}, library {found}");
     for slice in slices {
         println!("  {}", hex(slice));

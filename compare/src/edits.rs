@@ -13,7 +13,7 @@ use tally::Tally;
 /// The bytes of a state that are the editor's.
 pub const STATE: usize = 453;
 
-/// The bytes of the longest description.
+/// The bytes of the longest description with three pairs.
 const LONGEST: usize = 461;
 
 /// Bytes behind a state or around a buffer that are not the editor's.

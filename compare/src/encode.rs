@@ -17,8 +17,9 @@ fn with_pairs(mut bytes: Vec<u8>, parts: &[Vec<u8>]) -> Vec<u8> {
     bytes
 }
 
-/// The three parts of a description, in bytes: roles, concepts, question.
-pub fn description_parts(description: &Description) -> [Vec<u8>; 3] {
+/// The parts of a description, in bytes: roles, concepts, question and, if there is a fourth pair,
+/// roles that never share a filler.
+pub fn description_parts(description: &Description) -> Vec<Vec<u8>> {
     let mut roles = Vec::new();
     for role in &description.roles {
         roles.push(role.transitive as u8);
@@ -27,10 +28,12 @@ pub fn description_parts(description: &Description) -> [Vec<u8>; 3] {
     let concepts = description.concepts.iter().flat_map(entry).collect();
     let mut question = vec![description.root];
     question.extend(&description.rules);
-    [roles, concepts, question]
+    let mut parts = vec![roles, concepts, question];
+    parts.extend(description.apart.as_ref().map(|records| records.concat()));
+    parts
 }
 
-pub fn join_parts(parts: &[Vec<u8>; 3]) -> Vec<u8> {
+pub fn join_parts(parts: &[Vec<u8>]) -> Vec<u8> {
     with_pairs(Vec::new(), parts)
 }
 

@@ -12,7 +12,7 @@ use ::compare::edits::Edits;
 use ::compare::encode;
 use ::compare::make::refutations::Known;
 use ::compare::make::{
-    cells, damage, descriptions, graphs, lines, refutations, spoil_graph, spoil_list,
+    cells, damage, descriptions, graphs, lines, refutations, spoil_apart, spoil_graph, spoil_list,
 };
 use ::compare::paper::description::Description;
 use ::compare::paper::evidence::{Closing, Node};
@@ -64,7 +64,7 @@ fn round(r: &mut Random, c: &mut Comparison, before: &[u8]) -> Vec<u8> {
         },
     };
     // Lists that rest on an error about cells; most often the description is not empty.
-    for known in [Known::Denied, Known::Reached, Known::Carried] {
+    for &known in refutations::errors(&description) {
         if let Some(closings) = refutations::search(r, &description, root, known, 1) {
             c.check(&bytes, &encode::list(width, &closings));
         }
@@ -84,7 +84,27 @@ fn round(r: &mut Random, c: &mut Comparison, before: &[u8]) -> Vec<u8> {
             _ => c.check(&spoiled, &evidence),
         }
     }
+    if description.apart.is_some() {
+        with_other_records(r, c, &description, &evidence);
+    }
     evidence
+}
+
+/// The fourth part is another one; now and then the evidence or a line has no form, either.
+fn with_other_records(
+    r: &mut Random,
+    c: &mut Comparison,
+    description: &Description,
+    evidence: &[u8],
+) {
+    for _ in 0..6 {
+        let spoiled = spoil_apart::description(r, description);
+        match r.below(6) {
+            0 => c.check(&spoiled, &damage::bytes(r, evidence)),
+            1 => c.read(&spoiled, &damage::bytes(r, evidence)),
+            _ => c.check(&spoiled, evidence),
+        }
+    }
 }
 
 fn with_graph(
@@ -116,6 +136,13 @@ fn with_graph(
             c.write(bytes, &spoiled, room, r.byte());
         }
     }
+    if description.apart.is_some() {
+        for _ in 0..4 {
+            let spoiled = spoil_apart::graph(r, description, nodes);
+            c.check(bytes, &spoiled);
+            c.write(bytes, &spoiled, length(width, MOST_ELEMENTS), r.byte());
+        }
+    }
     evidence
 }
 
@@ -145,6 +172,13 @@ fn with_line(
         let spoiled = lines::spoiled(r, description, &line);
         c.read(bytes, &spoiled);
     }
+    if description.apart.is_some() {
+        for _ in 0..6 {
+            let mut near = line.clone();
+            spoil_apart::pair(r, description, &mut near);
+            c.read(bytes, &near.bytes(width));
+        }
+    }
 }
 
 fn with_list(
@@ -162,6 +196,11 @@ fn with_list(
     for _ in 0..16 {
         let spoiled = spoil_list::spoiled(r, description, closings);
         c.check(bytes, &spoiled);
+    }
+    if description.apart.is_some() {
+        for _ in 0..8 {
+            c.check(bytes, &spoil_apart::list(r, description, closings));
+        }
     }
     for _ in 0..2 {
         if let Some(narrowed) = cells::narrowed(r, description, closings) {

@@ -352,6 +352,7 @@ impl Kept {
             concepts: self.concepts.clone(),
             root: self.root.unwrap_or(0),
             rules: self.rules.clone(),
+            apart: None,
             ancestors: Vec::new(),
         })
     }

@@ -1,11 +1,8 @@
 //! Errors in walking the cells of a counting step with the roles kept from one cell to the next,
 //! and whether an answer would show them.
 
-use crate::paper::counting::{cell_roles, known_by_roles, row, Row, OPEN};
-use crate::paper::description::Description;
-use crate::paper::evidence::{closings, head, Closing, Counting, Head, Step};
-use crate::paper::label::Label;
-use crate::paper::{Answer, Refusal};
+use crate::paper::counting::OPEN;
+use crate::steps::{Place, Weighed};
 
 #[derive(Clone, Copy, PartialEq, Eq)]
 pub enum Walk {
@@ -29,21 +26,10 @@ pub const WALKS: [(Walk, &str); 5] = [
     (Walk::Stops, "walk stops"),
 ];
 
-/// For each walk: would a checker with that error give another answer, where `answer` is the
-/// paper's to a question, or to a claim, with this evidence or this first piece?
-pub fn shown(description: &[u8], evidence: &[u8], answer: Answer) -> [bool; WALKS.len()] {
-    let nothing = [false; WALKS.len()];
-    let (Ok(description), Ok(Head::List(records))) =
-        (Description::read(description), head(evidence))
-    else {
-        return nothing;
-    };
-    let Ok(closings) = closings(&records, description.width()) else {
-        return nothing;
-    };
-    let tested = &closings[..tested(answer, closings.len())];
-    let mut shown = nothing;
-    for place in (0..tested.len()).filter_map(|i| Place::of(&description, tested, i)) {
+/// For each walk: would a checker with that error give another answer than the paper's?
+pub fn shown(list: &Weighed) -> [bool; WALKS.len()] {
+    let mut shown = [false; WALKS.len()];
+    for place in list.tested() {
         for (shown, differs) in shown.iter_mut().zip(place.differ()) {
             *shown |= differs;
         }
@@ -51,51 +37,10 @@ pub fn shown(description: &[u8], evidence: &[u8], answer: Answer) -> [bool; WALK
     shown
 }
 
-/// How many records of a list came to the test of their cells.
-fn tested(answer: Answer, records: usize) -> usize {
-    let Answer::Refused(Refusal { number, record }) = answer else {
-        return records;
-    };
-    match number {
-        ..=9 | 24 => 0,
-        16..=17 => record as usize,
-        18..=19 => record as usize + 1,
-        // The end, or the second piece.
-        _ => records,
-    }
-}
-
-/// A counting step that has passed 17.
-struct Place<'a> {
-    description: &'a Description,
-    closings: &'a [Closing],
-    label: Label,
-    step: &'a Counting,
-    rows: Vec<Row>,
-}
-
 impl Place<'_> {
-    fn of<'a>(
-        description: &'a Description,
-        closings: &'a [Closing],
-        record: usize,
-    ) -> Option<Place<'a>> {
-        let Step::Counting(step) = &closings[record].step else {
-            return None;
-        };
-        let rows = step.rows.iter().filter_map(|&l| row(description, l));
-        Some(Place {
-            description,
-            closings,
-            label: closings[record].label,
-            step,
-            rows: rows.collect(),
-        })
-    }
-
     /// For each walk: is the step refused with 18 where it should not be, or not where it should?
     fn differ(&self) -> [bool; WALKS.len()] {
-        let right = (1..=self.step.cells.len()).map(|cell| {
+        let right = self.cells().map(|cell| {
             let roles = self.roles(cell);
             (roles, self.passes(cell, roles))
         });
@@ -109,18 +54,6 @@ impl Place<'_> {
             });
             all_pass != passes
         })
-    }
-
-    /// The roles of the rows of a cell.
-    fn roles(&self, cell: usize) -> u16 {
-        cell_roles(self.description, &self.rows, cell)
-    }
-
-    /// Is the cell open, or its record's label within what is known by these roles?
-    fn passes(&self, cell: usize, roles: u16) -> bool {
-        let cite = self.step.cells[cell - 1];
-        let known = || known_by_roles(self.description, self.label, &self.rows, cell, roles);
-        cite == OPEN || self.closings[cite as usize].label.within(known())
     }
 
     /// The roles that a walk has at each cell it tests.

@@ -54,6 +54,7 @@ impl Trial {
             concepts,
             root: ROOT,
             rules: Vec::new(),
+            apart: None,
         })
     }
 

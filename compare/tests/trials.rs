@@ -23,6 +23,7 @@ fn described(roles: Vec<Role>, concepts: Vec<Concept>, root: u8) -> Vec<u8> {
         concepts,
         root,
         rules: Vec::new(),
+        apart: None,
     })
 }
 

@@ -3,7 +3,7 @@
 
 use crate::encode;
 use crate::make::refutations::cites_of;
-use crate::paper::counting::{cell_roles, known_by_roles, row, Row, OPEN};
+use crate::paper::counting::{cell_roles, known_by_roles, row, Row, BARRED, OPEN};
 use crate::paper::description::Description;
 use crate::paper::evidence::{Cite, Closing, Counting, Step, MOST_RECORDS};
 use crate::paper::label::{Label, Literal};
@@ -113,7 +113,7 @@ impl Place<'_> {
     fn cited_cell(&self, r: &mut Random) -> Option<usize> {
         let open = |c: usize| self.step.cells[c - 1] == OPEN;
         let cells = 1..=self.step.cells.len();
-        let cited: Vec<usize> = cells.filter(|&c| !open(c)).collect();
+        let cited: Vec<usize> = cells.filter(|&c| self.step.cells[c - 1] < BARRED).collect();
         let last = *cited.last()?;
         let any = r.pick(&cited);
         let behind = cited.iter().copied().filter(|&c| c > 1 && open(c - 1));

@@ -1,7 +1,10 @@
 //! Damage to bytes of any kind, and to the parts of a description.
 
 use crate::encode;
-use crate::paper::description::{Concept, Description, MOST_ENTRIES, MOST_ROLES, MOST_RULES};
+use crate::make::spoil_apart;
+use crate::paper::description::{
+    Concept, Description, Role, MOST_APART, MOST_ENTRIES, MOST_ROLES, MOST_RULES,
+};
 use crate::random::Random;
 
 /// Bytes at a limit of the paper, or next to one.
@@ -65,13 +68,14 @@ pub fn pairs(r: &mut Random, bytes: &[u8], at: usize, count: usize) -> Vec<u8> {
 /// A description with one thing wrong, or with a number at its limit.
 pub fn description(r: &mut Random, whole: &Description) -> Vec<u8> {
     let bytes = encode::description(whole);
+    let mut parts = encode::description_parts(whole);
     match r.below(12) {
         0 => return self::bytes(r, &bytes),
-        1 => return pairs(r, &bytes, 0, 3),
-        2 => return bytes[..r.below(bytes.len())].to_vec(),
+        1 => return pairs(r, &bytes, 0, parts.len()),
+        2 => return short(r, &bytes),
+        3 => return spoil_apart::description(r, whole),
         _ => {}
     }
-    let mut parts = encode::description_parts(whole);
     match r.below(13) {
         0 => sizes(r, &mut parts),
         1..=2 => role(r, &mut parts[0], whole.roles.len()),
@@ -89,9 +93,21 @@ pub fn description(r: &mut Random, whole: &Description) -> Vec<u8> {
     encode::join_parts(&parts)
 }
 
+/// Cut anywhere, or within the pairs; or with the first offset that another number of pairs has.
+fn short(r: &mut Random, bytes: &[u8]) -> Vec<u8> {
+    let mut bytes = bytes.to_vec();
+    let (any, near) = (r.below(bytes.len()), r.range(11, 17));
+    match r.below(4) {
+        0 => bytes[1] ^= 12 ^ 16,
+        1 => bytes.truncate(near),
+        _ => bytes.truncate(any),
+    }
+    bytes
+}
+
 /// Parts of other lengths: a byte off, none, as many records as may be, one more.
-fn sizes(r: &mut Random, parts: &mut [Vec<u8>; 3]) {
-    let which = r.below(3);
+fn sizes(r: &mut Random, parts: &mut [Vec<u8>]) {
+    let which = r.below(parts.len());
     let part = &mut parts[which];
     match r.below(6) {
         0 => part.clear(),
@@ -104,7 +120,8 @@ fn sizes(r: &mut Random, parts: &mut [Vec<u8>; 3]) {
             match which {
                 0 => part.resize(3 * (MOST_ROLES - 1 + extra), 0),
                 1 => entries(part, MOST_ENTRIES - 1 + extra),
-                _ => part.resize(MOST_RULES + extra, 0),
+                2 => part.resize(MOST_RULES + extra, 0),
+                _ => spoil_apart::so_many(part, MOST_APART - 1 + extra),
             }
         }
     }
@@ -196,13 +213,39 @@ fn missing_every(r: &mut Random, whole: &Description) -> Vec<u8> {
             }
         }
     }
-    if r.one_in(2) {
-        // A transitive role below all others.
-        let last = whole.roles.len() - 1;
-        whole.roles[last].transitive = true;
-        whole.roles[last].parents = (1u32 << whole.roles.len()).wrapping_sub(1) as u16;
+    match r.below(6) {
+        0..=1 => {
+            // A transitive role below all others.
+            let last = whole.roles.len() - 1;
+            whole.roles[last].transitive = true;
+            whole.roles[last].parents = (1u32 << whole.roles.len()).wrapping_sub(1) as u16;
+        }
+        2..=3 => role_below(r, &mut whole),
+        _ => {}
     }
     encode::description(&whole)
+}
+
+/// A new transitive role below one that an "every" speaks of and no count, nor one on a role above.
+fn role_below(r: &mut Random, whole: &mut Description) {
+    let above = |role: usize, other: usize| whole.ancestors[role] >> other & 1 == 1;
+    let counts = |role: usize| {
+        whole.concepts.iter().any(|c| match *c {
+            Concept::AtLeast { role: other, .. } => above(role, other),
+            _ => false,
+        })
+    };
+    let places = whole.concepts.iter().filter_map(|c| match *c {
+        Concept::Every { role, .. } if !counts(role) => Some(role),
+        _ => None,
+    });
+    let places: Vec<usize> = places.collect();
+    if !places.is_empty() && whole.roles.len() < MOST_ROLES {
+        whole.roles.push(Role {
+            transitive: true,
+            parents: 1 << r.pick(&places),
+        });
+    }
 }
 
 /// An inclusion more or less, or another role in a count or an "every": cells have other roles.

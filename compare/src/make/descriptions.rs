@@ -1,21 +1,22 @@
 //! Random accepted descriptions.
 
+mod apart;
+mod roles;
 mod shared;
 
 use crate::encode;
-use crate::paper::description::{
-    ancestors, Concept, Description, Role, MOST_ENTRIES, MOST_ROLES, MOST_RULES,
-};
+use crate::paper::description::{ancestors, Concept, Description, MOST_ENTRIES, MOST_RULES};
 use crate::paper::label::{opposite, Literal};
 use crate::random::Random;
 
-/// A description that none of 1 to 8 refuses.
+/// A description that none of 1 to 8 and 26 refuses.
 pub fn random(r: &mut Random) -> Description {
     loop {
-        let shared = r.one_in(5);
-        let mut maker = Maker::new(r, shared);
+        let kind = Kind::random(r);
+        let mut maker = Maker::new(r, kind);
         match maker.r.below(10) {
-            _ if shared => maker.shared(),
+            _ if kind == Kind::Shared => maker.shared(),
+            3..=8 if kind == Kind::Apart => maker.kept_apart(),
             0 => maker.exactly_two_of_three(),
             1..=2 => maker.loose(),
             _ => maker.counted(),
@@ -30,6 +31,26 @@ pub fn random(r: &mut Random) -> Description {
 
 /// So many entries are enough for most roots with all that they speak of.
 const ENOUGH: usize = 25;
+
+/// What the roles are made for.
+#[derive(Clone, Copy, PartialEq, Eq)]
+enum Kind {
+    Any,
+    /// Rows whose roles have ancestors in common.
+    Shared,
+    /// Rows whose roles never share a filler; there is a fourth pair.
+    Apart,
+}
+
+impl Kind {
+    fn random(r: &mut Random) -> Kind {
+        match r.below(20) {
+            0..=3 => Kind::Shared,
+            4..=8 => Kind::Apart,
+            _ => Kind::Any,
+        }
+    }
+}
 
 /// How many entries there are.
 struct Size {
@@ -72,11 +93,12 @@ struct Maker<'a> {
 }
 
 impl Maker<'_> {
-    fn new(r: &mut Random, shared: bool) -> Maker<'_> {
+    fn new(r: &mut Random, kind: Kind) -> Maker<'_> {
         let size = Size::random(r);
-        let roles = match shared && !size.largest {
-            true => shared::roles(r),
-            false => random_roles(r, size.largest),
+        let roles = match kind {
+            Kind::Shared if !size.largest => shared::roles(r),
+            Kind::Apart if !size.largest => apart::roles(r),
+            _ => roles::random(r, size.largest),
         };
         // None, some or all of the entries that are left over come first: with all of 64, the
         // literals that matter are mostly above 63.
@@ -90,12 +112,16 @@ impl Maker<'_> {
                 concepts: vec![Concept::Top],
                 root: 0,
                 rules: Vec::new(),
+                apart: None,
             },
             size,
             ahead: 0,
             big: r.one_in(10),
             r,
         };
+        if kind == Kind::Apart {
+            maker.description.apart = Some(apart::records(maker.r, &maker.description));
+        }
         if maker.r.one_in(2) {
             maker.fill_to(1 + ahead);
         } else {
@@ -363,30 +389,4 @@ impl Maker<'_> {
         self.description.root = self.all_of(&joined)?;
         Some(())
     }
-}
-
-fn random_roles(r: &mut Random, largest: bool) -> Vec<Role> {
-    let count = match r.below(20) {
-        _ if largest => MOST_ROLES,
-        0 => MOST_ROLES,
-        1 => r.range(5, 15),
-        _ => r.pick(&[1, 1, 2, 2, 3, 4]),
-    };
-    let transitive_in = r.pick(&[2, 4, 4, 8]);
-    let mut roles = Vec::new();
-    for i in 0..count {
-        let mut parents = 0u16;
-        for j in 0..count {
-            // Mostly upward to earlier roles; now and then the own bit or a cycle.
-            let often = if j < i { 3 } else { 15 };
-            if r.one_in(often) {
-                parents |= 1 << j;
-            }
-        }
-        roles.push(Role {
-            transitive: r.one_in(transitive_in),
-            parents,
-        });
-    }
-    roles
 }

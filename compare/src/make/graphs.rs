@@ -170,8 +170,10 @@ impl Maker<'_> {
         let mut count = start.left;
         for demand in demands.iter().filter(|demand| demand.left > 0) {
             let joins = self.merge == 2 || self.merge == 1 && self.r.one_in(2);
-            if joins && !wanted.has(opposite(demand.row.qualifier)) {
-                mask |= self.description.ancestors[demand.row.role];
+            let joined = mask | self.description.ancestors[demand.row.role];
+            let shared = !wanted.has(opposite(demand.row.qualifier));
+            if joins && shared && !self.description.barred(joined) {
+                mask = joined;
                 wanted = wanted.with(demand.row.qualifier);
                 count = count.min(demand.left);
             }

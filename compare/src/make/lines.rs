@@ -1,6 +1,6 @@
 //! Lines for the reader: random ones, and such as lie near a model.
 
-use crate::make::damage;
+use crate::make::{damage, spoil_apart};
 use crate::paper::description::{Concept, Description};
 use crate::paper::line::{length, Line};
 use crate::random::Random;
@@ -39,7 +39,7 @@ pub fn near(r: &mut Random, description: &Description, line: &Line) -> Line {
     let d = line.names.len();
     for _ in 0..r.range(1, 2) {
         let (x, y) = (r.below(d), r.below(d));
-        match r.below(6) {
+        match r.below(if description.apart.is_some() { 7 } else { 6 }) {
             0..=1 => {
                 let names = names(description);
                 if !names.is_empty() {
@@ -49,6 +49,7 @@ pub fn near(r: &mut Random, description: &Description, line: &Line) -> Line {
             2 => line.pairs[x][y] |= role_mask(r, description),
             3 => line.pairs[x][y] = 0,
             4 => line.pairs[x][y] ^= 1 << r.below(description.roles.len()),
+            6 => spoil_apart::pair(r, description, &mut line),
             _ => {
                 line.pairs[x][y] |= role_mask(r, description);
                 line.close(description);

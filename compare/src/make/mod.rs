@@ -9,6 +9,7 @@ pub mod edits;
 pub mod graphs;
 pub mod lines;
 pub mod refutations;
+pub mod spoil_apart;
 pub mod spoil_claim;
 pub mod spoil_graph;
 pub mod spoil_list;

@@ -1,13 +1,15 @@
 //! Closing lists by a small refutation search over steps 1 to 6.
 
 use crate::make::trees;
-use crate::paper::counting::{in_cell, known_label, open_cells, row, Row, OPEN};
+use crate::paper::counting::{
+    cell_roles, in_cell, known_by_roles, open_cells, row, Cell, Row, BARRED, OPEN,
+};
 use crate::paper::description::{Concept, Description};
 use crate::paper::evidence::{Cite, Closing, Counting, Step, MOST_RECORDS};
 use crate::paper::label::{opposite, Label, Literal};
 use crate::random::Random;
 
-/// How the search knows the label of a cell: as the paper says, or with an error that a good
+/// How the search knows the answer for a cell: as the papers say, or with an error that a good
 /// developer may make, so that its lists are such as a wrong checker would take.
 #[derive(Clone, Copy, PartialEq, Eq)]
 pub enum Known {
@@ -18,6 +20,25 @@ pub enum Known {
     Reached,
     /// "Every T l" also where T is not known to hold.
     Carried,
+    /// A barred cell is one like others.
+    Shared,
+    /// A cell is barred also where only one role of a record is known to hold.
+    Half,
+}
+
+/// The errors that a search may have about cells of a description.
+pub fn errors(description: &Description) -> &'static [Known] {
+    let all = &[
+        Known::Denied,
+        Known::Reached,
+        Known::Carried,
+        Known::Shared,
+        Known::Half,
+    ];
+    match description.apart {
+        Some(_) => all,
+        None => &all[..3],
+    }
 }
 
 /// A list that closes the literals wanted, if a few tries find one; it is not tested here.
@@ -196,9 +217,24 @@ impl Search<'_> {
         None
     }
 
-    /// The known label of a cell, with the search's own error if it has one.
-    fn known(&self, label: Label, rows: &[Row], cell: usize) -> Label {
-        let mut known = known_label(self.description, label, rows, cell);
+    /// The answer for a cell, with the search's own error if it has one.
+    fn answer(&self, label: Label, rows: &[Row], cell: usize) -> Cell {
+        let roles = cell_roles(self.description, rows, cell);
+        let mut records = self.description.records_apart().iter().flatten();
+        let barred = match self.known {
+            Known::Shared => false,
+            Known::Half => records.any(|role| roles >> role & 1 == 1),
+            _ => self.description.barred(roles),
+        };
+        match barred {
+            true => Cell::Barred,
+            false => Cell::Known(self.known(label, rows, cell, roles)),
+        }
+    }
+
+    /// The known label of a cell with these roles.
+    fn known(&self, label: Label, rows: &[Row], cell: usize, roles: u16) -> Label {
+        let mut known = known_by_roles(self.description, label, rows, cell, roles);
         if self.known == Known::Denied {
             let others = rows.iter().enumerate().filter(|(i, _)| !in_cell(cell, *i));
             let denied: Vec<Literal> = others.map(|(_, row)| opposite(row.qualifier)).collect();
@@ -231,9 +267,10 @@ impl Search<'_> {
             .collect();
         let mut cells = Vec::new();
         for cell in 1..1 << rows.len() {
-            let known = self.known(label, &rows, cell);
-            let cite = self.refute(known, depth + 1).unwrap_or(OPEN);
-            cells.push(cite);
+            cells.push(match self.answer(label, &rows, cell) {
+                Cell::Barred => BARRED,
+                Cell::Known(known) => self.refute(known, depth + 1).unwrap_or(OPEN),
+            });
         }
         // More records than a cell byte can cite: the list would be too long as well.
         if self.closings.len() > 200 {
@@ -255,13 +292,13 @@ impl Search<'_> {
     }
 }
 
-/// Every cite of a step, to be changed in place.
+/// Every cite of a step, to be changed in place. Marks of cells are none, here with three pairs too.
 pub fn cites_of(step: &mut Step) -> Vec<&mut Cite> {
     match step {
         Step::Clash(_) => Vec::new(),
         Step::Both { cite, .. } | Step::Rule { cite, .. } => vec![cite],
         Step::NotBoth { cites, .. } | Step::Cases { cites, .. } => cites.iter_mut().collect(),
-        Step::Counting(step) => step.cells.iter_mut().filter(|c| **c != OPEN).collect(),
+        Step::Counting(step) => step.cells.iter_mut().filter(|c| **c < BARRED).collect(),
     }
 }
 

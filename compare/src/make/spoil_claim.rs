@@ -2,9 +2,10 @@
 
 use crate::encode;
 use crate::make::claims::{Claim, Piece};
-use crate::make::{damage, spoil_graph, spoil_list};
+use crate::make::{damage, spoil_apart, spoil_graph, spoil_list};
 use crate::paper::description::Description;
 use crate::paper::label::opposite;
+use crate::paper::Refusal;
 use crate::random::Random;
 
 /// A claim in bytes.
@@ -45,22 +46,45 @@ pub fn spoiled(
             3 => given.description = other_root(r, description, claim),
             4..=5 => literal(r, description, &mut given),
             6..=7 => order(r, &mut given, before),
-            _ => piece(r, description, claim, &mut given),
+            _ => piece(r, claim, &mut given, |r, piece| match piece {
+                Piece::Graph(nodes) => spoil_graph::spoiled(r, description, nodes),
+                Piece::List(closings) => spoil_list::spoiled(r, description, closings),
+            }),
         }
     }
     given
 }
 
+/// A claim with a change that touches roles that never share a filler.
+pub fn kept_apart(r: &mut Random, description: &Description, claim: &Claim) -> Given {
+    let mut given = Given::of(description, claim);
+    if r.below(5) < 3 {
+        piece(r, claim, &mut given, |r, piece| match piece {
+            Piece::Graph(nodes) => spoil_apart::graph(r, description, nodes),
+            Piece::List(closings) => spoil_apart::list(r, description, closings),
+        });
+        return given;
+    }
+    given.description = spoil_apart::description(r, description);
+    let refused = Description::read(&given.description).err();
+    if refused == Some(Refusal::whole(26)) && r.one_in(2) {
+        // 24 and 9 come after it.
+        literal(r, description, &mut given);
+        given.first = damage::bytes(r, &given.first);
+    }
+    given
+}
+
 /// One of the pieces spoiled.
-fn piece(r: &mut Random, description: &Description, claim: &Claim, given: &mut Given) {
-    let mut spoil = |piece: &Piece| match piece {
-        Piece::Graph(nodes) => spoil_graph::spoiled(r, description, nodes),
-        Piece::List(closings) => spoil_list::spoiled(r, description, closings),
-    };
-    let first = spoil(&claim.first);
-    match claim.second.as_ref().map(spoil) {
-        Some(second) if r.one_in(2) => given.second = second,
-        _ => given.first = first,
+fn piece(
+    r: &mut Random,
+    claim: &Claim,
+    given: &mut Given,
+    spoil: impl Fn(&mut Random, &Piece) -> Vec<u8>,
+) {
+    match &claim.second {
+        Some(second) if r.one_in(2) => given.second = spoil(r, second),
+        _ => given.first = spoil(r, &claim.first),
     }
 }
 

@@ -1,7 +1,7 @@
 //! Graphs with one thing changed; some changes leave a graph that keeps the rules.
 
 use crate::encode;
-use crate::make::{damage, widths};
+use crate::make::{damage, spoil_apart, widths};
 use crate::paper::description::Description;
 use crate::paper::evidence::{Edge, Node, MOST_EDGES, MOST_RECORDS};
 use crate::paper::label::{Label, Literal, Width};
@@ -75,7 +75,7 @@ fn form(r: &mut Random, width: Width, nodes: &[Node]) -> Vec<u8> {
 
 fn change(r: &mut Random, description: &Description, nodes: &mut Vec<Node>) {
     let i = r.below(nodes.len());
-    match r.below(10) {
+    match r.below(if description.apart.is_some() { 11 } else { 10 }) {
         0 if r.one_in(20) => largest(nodes),
         0..=2 => label(r, description, &mut nodes[i]),
         3..=5 => edge(r, description, nodes),
@@ -88,6 +88,7 @@ fn change(r: &mut Random, description: &Description, nodes: &mut Vec<Node>) {
             nodes.push(copy);
         }
         8 => many_elements(r, description, nodes),
+        10 => spoil_apart::edges(r, description, nodes),
         _ => {
             // Edges in another order, doubled or dropped.
             let edges = &mut nodes[i].edges;

@@ -4,8 +4,8 @@ use crate::encode;
 use crate::make::damage;
 use crate::make::refutations::cites_of;
 use crate::make::spoil_graph::head;
-use crate::make::{swell, widths};
-use crate::paper::counting::{open_cells, OPEN};
+use crate::make::{spoil_apart, swell, widths};
+use crate::paper::counting::{open_cells, BARRED, OPEN};
 use crate::paper::description::Description;
 use crate::paper::evidence::{Closing, Counting, Step, Tree};
 use crate::paper::label::{Label, Literal, Width};
@@ -61,13 +61,7 @@ fn change(r: &mut Random, description: &Description, closings: &mut Vec<Closing>
         .collect();
     if !steps.is_empty() && !r.one_in(3) {
         let i = r.pick(&steps);
-        if r.one_in(30) {
-            closings[i] = swell::full_closing(&closings[i], 8).unwrap_or(closings[i].clone());
-        }
-        if let Step::Counting(step) = &mut closings[i].step {
-            count(r, description, step, i);
-        }
-        return;
+        return change_step(r, description, closings, i);
     }
     match r.below(10) {
         0..=1 => label(r, description, &mut closings[i]),
@@ -83,21 +77,35 @@ fn change(r: &mut Random, description: &Description, closings: &mut Vec<Closing>
                 closings.pop();
             }
         }
-        8 => {
-            // Another record at the end; 64 records, or 65.
-            let copy = closings[i].clone();
-            let last = closings[closings.len() - 1].clone();
-            match r.below(4) {
-                0 => closings.resize(64, last),
-                1 => closings.resize(65, last),
-                _ => closings.push(copy),
-            }
-        }
+        8 => lengthen(r, closings, i),
         _ => {
             let last = closings.len() - 1;
             let l = r.below(2 * description.concepts.len());
             closings[last].label = closings[last].label.with(l as Literal);
         }
+    }
+}
+
+/// A change to a counting step.
+fn change_step(r: &mut Random, description: &Description, closings: &mut [Closing], i: usize) {
+    if r.one_in(30) {
+        closings[i] = swell::full_closing(&closings[i], 8).unwrap_or(closings[i].clone());
+    }
+    if description.apart.is_some() && r.one_in(10) {
+        spoil_apart::cell(r, description, closings, i);
+    } else if let Step::Counting(step) = &mut closings[i].step {
+        count(r, description, step, i);
+    }
+}
+
+/// Another record at the end; 64 records, or 65.
+fn lengthen(r: &mut Random, closings: &mut Vec<Closing>, i: usize) {
+    let copy = closings[i].clone();
+    let last = closings[closings.len() - 1].clone();
+    match r.below(4) {
+        0 => closings.resize(64, last),
+        1 => closings.resize(65, last),
+        _ => closings.push(copy),
     }
 }
 
@@ -171,10 +179,10 @@ fn count(r: &mut Random, description: &Description, step: &mut Counting, own: us
             // A cell opened, shut, or shut by another record.
             let c = r.below(step.cells.len());
             let other = r.below(own.max(1)) as u8;
-            step.cells[c] = match r.below(9) {
+            step.cells[c] = match r.below(10) {
                 0..=1 => OPEN,
                 2 => own as u8,
-                3 => 254,
+                3..=4 => BARRED,
                 _ => other,
             };
         }
@@ -195,12 +203,12 @@ fn more_rows(r: &mut Random, step: &mut Counting) {
     step.tree = Tree::Leaf(vec![1; k]);
 }
 
-/// Splits that are not needed above a leaf, up to depth 8 or 9; the leaf's multipliers of
-/// them are 0, so that it still closes.
+/// Splits that are not needed above a leaf, up to depth 8 or 9, seldom on a cell that is not open;
+/// the leaf's multipliers of them are 0, so that it still closes.
 fn deepen(r: &mut Random, step: &mut Counting) {
     let open = open_cells(&step.cells);
-    let cell = match open.is_empty() {
-        true => 1,
+    let cell = match open.is_empty() || r.one_in(8) {
+        true => r.range(1, step.cells.len()) as u8,
         false => r.pick(&open) as u8,
     };
     let value = r.pick(&[0, 1, 2, 999, 1000, 1000, 1001]);

@@ -1,7 +1,7 @@
 //! Evidence whose labels have the other width, or that has a form at both.
 
 use crate::encode;
-use crate::paper::counting::{row, OPEN};
+use crate::paper::counting::{row, BARRED, OPEN};
 use crate::paper::description::Description;
 use crate::paper::evidence::{Closing, Node};
 use crate::paper::label::{Label, Literal, Width};
@@ -65,7 +65,12 @@ fn record_with_both_forms(r: &mut Random, description: &Description, own: u8) ->
     }
     record.extend([6, 2]);
     record.extend(rows);
-    record.extend([(); 3].map(|()| r.pick(&[OPEN, OPEN, own.saturating_sub(1), own])));
+    let mark = match description.apart {
+        Some(_) => BARRED,
+        None => OPEN,
+    };
+    let bytes = [OPEN, mark, own.saturating_sub(1), own];
+    record.extend([(); 3].map(|()| r.pick(&bytes)));
     let clash = r.range(8, 31);
     let l = r.pick(&[0, 1, clash, clash, clash, table - 1, table]);
     record.extend([0, 1, l as u8]);

@@ -13,7 +13,7 @@ pub fn judge(
     second: &[u8],
 ) -> Result<Answer, Refusal> {
     let description = Description::read(description)?;
-    // 24, right after 8: C or D past the table.
+    // 24, right after 8 and 26: C or D past the table.
     if !claim.iter().all(|&l| description.in_table(l)) {
         return Err(Refusal::whole(24));
     }

@@ -1,11 +1,14 @@
 //! The counting step: rows, cells and the tree.
 
 use super::description::{Concept, Description};
-use super::evidence::{Counting, Tree};
+use super::evidence::{Closing, Counting, Tree};
 use super::label::{opposite, Label, Literal};
 
 /// The cell byte of an open cell.
 pub const OPEN: u8 = 255;
+
+/// The cell byte of a cell that is barred by its roles. With three pairs it is a cite like others.
+pub const BARRED: u8 = 254;
 
 #[derive(Clone, Copy, PartialEq, Eq, Debug)]
 pub enum Side {
@@ -58,13 +61,47 @@ pub fn cell_roles(description: &Description, rows: &[Row], cell: usize) -> u16 {
     of_cell.fold(0, |mask, (_, row)| mask | description.ancestors[row.role])
 }
 
-/// What is known of the fillers of a cell, where `label` is the record's own.
-pub fn known_label(description: &Description, label: Label, rows: &[Row], cell: usize) -> Label {
+/// The answer for one cell.
+#[derive(Clone, Copy, PartialEq, Eq, Debug)]
+pub enum Cell {
+    /// What is known of its fillers.
+    Known(Label),
+    /// Its roles have both roles of a record, so there are none.
+    Barred,
+}
+
+/// The answer for a cell, where `label` is the record's own.
+pub fn cell_answer(description: &Description, label: Label, rows: &[Row], cell: usize) -> Cell {
     let roles = cell_roles(description, rows, cell);
-    known_by_roles(description, label, rows, cell, roles)
+    cell_by_roles(description, label, rows, cell, roles)
 }
 
 /// The same for fillers of which these roles are known, which may be others than the cell's.
+pub fn cell_by_roles(
+    description: &Description,
+    label: Label,
+    rows: &[Row],
+    cell: usize,
+    roles: u16,
+) -> Cell {
+    match description.barred(roles) {
+        true => Cell::Barred,
+        false => Cell::Known(known_by_roles(description, label, rows, cell, roles)),
+    }
+}
+
+/// 18, for one cell: a barred one has the byte for that; any other is open or cites a record whose
+/// label lies within the known one.
+pub fn byte_fits(byte: u8, answer: Cell, closings: &[Closing]) -> bool {
+    match (answer, byte) {
+        (Cell::Barred, byte) => byte == BARRED,
+        (Cell::Known(_), OPEN) => true,
+        (Cell::Known(_), BARRED) => false,
+        (Cell::Known(known), cite) => closings[cite as usize].label.within(known),
+    }
+}
+
+/// What is known of fillers of a cell by these roles, barred or not.
 pub fn known_by_roles(
     description: &Description,
     label: Label,

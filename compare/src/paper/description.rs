@@ -1,4 +1,4 @@
-//! The description and its tests, 1 to 8.
+//! The description and its tests, 1 to 8 and 26.
 
 use super::bytes::{number, parts};
 use super::label::{Literal, Width};
@@ -33,6 +33,9 @@ pub struct Description {
     pub concepts: Vec<Concept>,
     pub root: Literal,
     pub rules: Vec<Literal>,
+    /// Records of two roles that never share a filler. There is a difference between no record and
+    /// no fourth pair for them: what the byte of a cell may be.
+    pub apart: Option<Vec<[u8; 2]>>,
     /// For each role the mask of its ancestors, itself included.
     pub ancestors: Vec<u16>,
 }
@@ -40,21 +43,27 @@ pub struct Description {
 pub const MOST_ROLES: usize = 16;
 pub const MOST_ENTRIES: usize = 64;
 pub const MOST_RULES: usize = 16;
+pub const MOST_APART: usize = 16;
+
+/// The first offset, which is where the pairs end, of a description with four pairs.
+const FOUR_PAIRS: u16 = 16;
 
 /// A test of a whole description.
 type Test = fn(&Description) -> bool;
 
 impl Description {
-    /// The description that some bytes are, once none of 1 to 8 refuses it.
+    /// The description that some bytes are, once none of 1 to 8 and 26 refuses it.
     pub fn read(bytes: &[u8]) -> Result<Description, Refusal> {
-        // 1: shorter than 12, or pairs off.
-        let found = parts(bytes, 0, 3).ok_or(Refusal::whole(1))?;
+        // 1: shorter than the pairs, or pairs off.
+        let found = parts(bytes, 0, pairs_of(bytes)).ok_or(Refusal::whole(1))?;
         let (roles, concepts, question) = (found[0], found[1], found[2]);
+        let apart = found.get(3).copied();
 
         // 2: length no multiple, or outside limits.
-        let sized = records_in(roles, 3, MOST_ROLES)
-            && records_in(concepts, 6, MOST_ENTRIES)
-            && records_in(question, 1, 1 + MOST_RULES);
+        let sized = records_in(roles, 3, 1, MOST_ROLES)
+            && records_in(concepts, 6, 1, MOST_ENTRIES)
+            && records_in(question, 1, 1, 1 + MOST_RULES)
+            && apart.is_none_or(|part| records_in(part, 2, 0, MOST_APART));
         if !sized {
             return Err(Refusal::whole(2));
         }
@@ -67,30 +76,34 @@ impl Description {
             concepts,
             root: question[0],
             rules: question[1..].to_vec(),
+            apart: apart.map(|part| part.chunks(2).map(|b| [b[0], b[1]]).collect()),
         };
         description.test()?;
         Ok(description)
     }
 
-    /// Tests 5 to 8, each over the whole description.
+    /// Tests 5 to 8, then 26, each over the whole description.
     fn test(&self) -> Result<(), Refusal> {
         self.test_entries()?;
-        match self.question_in_table() {
-            true => Ok(()),
-            false => Err(Refusal::whole(8)),
-        }
+        self.test_all(&[
+            (8, Description::question_in_table),
+            (26, Description::keeps_simple_roles_apart),
+        ])
     }
 
     /// Tests 5 to 7, which the question has no part in.
     pub(super) fn test_entries(&self) -> Result<(), Refusal> {
-        let tests: [(u8, Test); 3] = [
+        self.test_all(&[
             (5, Description::counts_simple_roles),
             (6, Description::has_no_twin),
             (7, Description::has_each_every),
-        ];
+        ])
+    }
+
+    fn test_all(&self, tests: &[(u8, Test)]) -> Result<(), Refusal> {
         for (number, test) in tests {
             if !test(self) {
-                return Err(Refusal::whole(number));
+                return Err(Refusal::whole(*number));
             }
         }
         Ok(())
@@ -157,15 +170,43 @@ impl Description {
         self.in_table(self.root) && self.rules.iter().all(|&l| self.in_table(l))
     }
 
+    /// 26: each record has two roles of the table, not the same twice, and both simple.
+    fn keeps_simple_roles_apart(&self) -> bool {
+        let simple = |role: u8| (role as usize) < self.roles.len() && self.simple(role as usize);
+        let kept = |&[a, b]: &[u8; 2]| simple(a) && simple(b) && a != b;
+        self.records_apart().iter().all(kept)
+    }
+
+    /// The records of roles that never share a filler, if there are any.
+    pub fn records_apart(&self) -> &[[u8; 2]] {
+        self.apart.as_deref().unwrap_or(&[])
+    }
+
+    /// Does a mask hold both roles of a record? Then no pair of elements has all roles of the mask.
+    pub fn barred(&self, mask: u16) -> bool {
+        let held = |role: u8| mask >> role & 1 == 1;
+        self.records_apart()
+            .iter()
+            .any(|&[a, b]| held(a) && held(b))
+    }
+
     /// Is it a literal of an entry of the table?
     pub fn in_table(&self, l: Literal) -> bool {
         (l as usize) < 2 * self.concepts.len()
     }
 }
 
-/// 1 to `most` records of `size` bytes, and no byte more.
-fn records_in(part: &[u8], size: usize, most: usize) -> bool {
-    part.len() % size == 0 && (1..=most).contains(&(part.len() / size))
+/// How many pairs a description has: the first offset decides.
+pub fn pairs_of(bytes: &[u8]) -> usize {
+    match bytes.len() >= 2 && number(bytes, 0) == FOUR_PAIRS {
+        false => 3,
+        true => 4,
+    }
+}
+
+/// `least` to `most` records of `size` bytes, and no byte more.
+fn records_in(part: &[u8], size: usize, least: usize, most: usize) -> bool {
+    part.len() % size == 0 && (least..=most).contains(&(part.len() / size))
 }
 
 /// 3: the transitive byte is 0 or 1, and no parent bit is past the last role.

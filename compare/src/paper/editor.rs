@@ -117,6 +117,7 @@ impl Editor {
             // No test here speaks of it if there is none.
             root: self.root.unwrap_or(0),
             rules: self.rules.clone(),
+            apart: None,
         };
         description.test_entries()?;
         let mut question = self.root.iter().chain(&self.rules);

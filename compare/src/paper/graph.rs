@@ -94,8 +94,8 @@ impl Place<'_> {
         })
     }
 
-    /// 13: the target is a record, the mask is not empty, has roles of the table only and
-    /// holds their ancestors, and the count is 1 to 1,000.
+    /// 13: the target is a record, the mask is not empty, has roles of the table only, holds
+    /// their ancestors and not both roles of a record, and the count is 1 to 1,000.
     fn edges(&self) -> bool {
         let roles = self.description.roles.len();
         let mask_ok = |mask: u16| {
@@ -103,6 +103,7 @@ impl Place<'_> {
             mask != 0
                 && !(roles..16).any(held)
                 && (0..roles).all(|r| !held(r) || self.description.ancestors[r] & !mask == 0)
+                && !self.description.barred(mask)
         };
         self.node().edges.iter().all(|edge| {
             edge.target < self.nodes.len() && mask_ok(edge.mask) && (1..=1000).contains(&edge.count)

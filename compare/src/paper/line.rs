@@ -146,13 +146,15 @@ impl Line {
             && self.pairs.iter().flatten().all(|&mask| bits_role(mask))
     }
 
-    /// Inclusions, transitivity, all rules everywhere, the root somewhere.
+    /// Inclusions, transitivity, roles that never share a filler, all rules everywhere, the root
+    /// somewhere.
     pub fn holds(&self, description: &Description) -> bool {
         let truth = self.truth(description);
         let d = self.names.len();
         let has = |x: usize, l: Literal| truth[l as usize / 2][x] == (l % 2 == 0);
         self.keeps_inclusions(description)
             && self.keeps_transitivity(description)
+            && self.keeps_apart(description)
             && (0..d).all(|x| description.rules.iter().all(|&l| has(x, l)))
             && (0..d).any(|x| has(x, description.root))
     }
@@ -175,6 +177,12 @@ impl Line {
             })
         };
         (0..description.roles.len()).all(|t| !description.roles[t].transitive || transitive(t))
+    }
+
+    /// No pair of elements is one of both roles of a record.
+    fn keeps_apart(&self, description: &Description) -> bool {
+        let mut masks = self.pairs.iter().flatten();
+        masks.all(|&mask| !description.barred(mask))
     }
 
     /// For each entry, the elements that have it; an entry uses only earlier ones.

@@ -1,6 +1,6 @@
 //! The steps of a closing list, 16 to 20.
 
-use super::counting::{known_label, row, tree_closes, Row, OPEN};
+use super::counting::{byte_fits, cell_answer, row, tree_closes, Row, BARRED, OPEN};
 use super::description::{Concept, Description};
 use super::evidence::{Cite, Closing, Counting, Step};
 use super::label::{opposite, Label, Literal};
@@ -74,6 +74,11 @@ impl Place<'_> {
         }
     }
 
+    /// Is it a mark of a cell? The one for barred cells is there with four pairs only.
+    fn is_mark(&self, byte: u8) -> bool {
+        byte == OPEN || byte == BARRED && self.description.apart.is_some()
+    }
+
     /// 16: cites are earlier records; literals, the label's too, entries and rules are there.
     fn cites(&self) -> bool {
         let entries = self.description.concepts.len();
@@ -89,7 +94,10 @@ impl Place<'_> {
             Step::Cases { entry, cites } => entry_ok(*entry) && all_earlier(cites),
             Step::Counting(step) => {
                 step.rows.iter().all(|&l| literal_ok(l))
-                    && step.cells.iter().all(|&c| c == OPEN || self.earlier(c))
+                    && step
+                        .cells
+                        .iter()
+                        .all(|&c| self.is_mark(c) || self.earlier(c))
             }
         };
         self.label().in_table(entries) && step_ok
@@ -160,15 +168,15 @@ impl Place<'_> {
         step.rows.iter().filter_map(row_of).collect()
     }
 
-    /// 18: the label that a cell cites lies within the cell's known label.
+    /// 18: the byte of each cell fits the answer for it.
     fn cells(&self) -> bool {
         let Step::Counting(step) = &self.closing().step else {
             return true;
         };
         let rows = self.rows(step);
-        step.cells.iter().enumerate().all(|(i, &cite)| {
-            let known = || known_label(self.description, self.label(), &rows, i + 1);
-            cite == OPEN || self.cited_within(cite, known())
+        step.cells.iter().enumerate().all(|(i, &byte)| {
+            let answer = cell_answer(self.description, self.label(), &rows, i + 1);
+            byte_fits(byte, answer, self.closings)
         })
     }
 

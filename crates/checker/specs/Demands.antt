@@ -34,7 +34,7 @@ pub counting-fillers : (D : Description) (K : Counting)
     → ((x : ℕ → ℕ) × Solves (bounds (rowsOf D (K .rows))) (openAt (K .cells)) x) ↔ Fillers (bounds (rowsOf D (K .rows))) (openAt (K .cells))
 counting-fillers D K = fillers (bounds (rowsOf D (K .rows))) (openAt (K .cells))
 
--- demand 2, "exactly when", of descriptions: with a role and an entry, refused by none of 3 to 8 exactly if accepted
+-- demand 2, "exactly when", of descriptions: with a role and an entry, refused by none of 3 to 8 and 26 exactly if accepted
 pub accepted-when : (D : Description) → ((1 ≤ D .roles) × ((1 ≤ D .entries) × (descriptionRefusal D ≡ none))) ↔ Accepted D
 accepted-when = accepted↔
 

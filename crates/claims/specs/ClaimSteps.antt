@@ -13,11 +13,12 @@ use Rattle.logic.specs.Refusals.{Refusal, unless, unless↔, refuse, refuse-the
 use Rattle.description.specs.Literals.{Literal, pos, neg, literal, opposite, code, entryOf, adding, literalSet, code-literal, literal-code, entryOf-opposite}
 use Rattle.description.specs.Acceptance.{literalTest}
 use Rattle.description.specs.Descriptions.{Description}
-use Rattle.tables.specs.Tables.{describe}
+use Rattle.tables.specs.Tables.{recordsIn, isThere, describe}
 use Rattle.labels.specs.Labels.{mostEntries, labelWith}
 use Rattle.roles.specs.Ancestors.{roleCount}
 use Rattle.roles.specs.Records.{MasksOf}
-use Rattle.intake.specs.Intake.{rolesPart, conceptsPart, queryPart, partsTest, parts-accepted, bytesTest}
+use Rattle.intake.specs.Intake.{four, disjointPart, rolesPart, conceptsPart, queryPart, partsTest, parts-accepted, bytesTest}
+use Rattle.intake.specs.Steps.{four-there}
 use Rattle.intake.specs.Opening.{wholly-none, parts-fine}
 use Rattle.nodes.specs.NodeSteps.{opposed, put-is}
 use Rattle.evidence.specs.Evidence.{headOf}
@@ -57,21 +58,21 @@ abbrev pub kindsAfter : Bool → List ℕ → Pieces
 kindsAfter list t = pieces (headFor list 0) (secondOf t)
 
 -- 10 to 20 of the pieces, by the masks a of m roles
-abbrev pub piecesCode : List ℕ → ℕ → List ℕ → List ℕ → ℕ → ℕ → List ℕ → List ℕ → Pieces → Option Refusal
-piecesCode a m cs qs c d s t ListAndGraph = firstOf (listCode a cs qs (counterSet c d) s) (graphCode a m cs qs (labelWith 0 c) t)
-piecesCode a m cs qs c d s t GraphAlone = graphCode a m cs qs (counterSet c d) s
-piecesCode a m cs qs c d s t ListAlone = listCode a cs qs (labelWith 0 c) s
-piecesCode a m cs qs c d s t Misfit = none
-piecesCode a m cs qs c d s t Off = none
+abbrev pub piecesCode : Bool → List ℕ → ℕ → List ℕ → List ℕ → ℕ → ℕ → List ℕ → List ℕ → Pieces → Option Refusal
+piecesCode b a m cs qs c d s t ListAndGraph = firstOf (listCode b a cs qs (counterSet c d) s) (graphCode a m cs qs (labelWith 0 c) t)
+piecesCode b a m cs qs c d s t GraphAlone = graphCode a m cs qs (counterSet c d) s
+piecesCode b a m cs qs c d s t ListAlone = listCode b a cs qs (labelWith 0 c) s
+piecesCode b a m cs qs c d s t Misfit = none
+piecesCode b a m cs qs c d s t Off = none
 
 -- the answer that tests of the pieces end in
 abbrev pub endsIn : Pieces → Option Refusal → Answer
 endsIn p o = answer (shows p) (firstOf o (wholly (kindsRefusal p)))
 
--- the answer on an opened description
-unfoldable pub openedClaim : List ℕ → ℕ → List ℕ → List ℕ → ℕ → ℕ → List ℕ → List ℕ → Answer
-openedClaim a m cs qs c d s t = let p = piecesOf s t in
-    answer (shows p) (refuse 0 (literalsCode cs c d) (refuse 0 (kindsRefusal p) (piecesCode a m cs qs c d s t p)))
+-- the answer on an opened description, without or with a fourth part
+unfoldable pub openedClaim : Bool → List ℕ → ℕ → List ℕ → List ℕ → ℕ → ℕ → List ℕ → List ℕ → Answer
+openedClaim b a m cs qs c d s t = let p = piecesOf s t in
+    answer (shows p) (refuse 0 (literalsCode cs c d) (refuse 0 (kindsRefusal p) (piecesCode b a m cs qs c d s t p)))
 
 -- ---- laws for the code: the kinds
 -- the number of records does not matter
@@ -146,35 +147,36 @@ ends-by-kind f m o ListAlone = ap (answer HOLDS-OF-NOTHING) (first-none (f ListA
 ends-by-kind f m o Misfit = rw m refl
 ends-by-kind f m o Off = rw o refl
 
-module _ (a : List ℕ) (m : ℕ) (cs qs : List ℕ) (c d : ℕ) (s t : List ℕ) (p : Pieces) (q : p ≡ piecesOf s t) where
+module _ (b : Bool) (a : List ℕ) (m : ℕ) (cs qs : List ℕ) (c d : ℕ) (s t : List ℕ) (p : Pieces) (q : p ≡ piecesOf s t) where
   abbrev coded : Pieces → Option Refusal
-  coded p = refuse 0 (kindsRefusal p) (piecesCode a m cs qs c d s t p)
+  coded p = refuse 0 (kindsRefusal p) (piecesCode b a m cs qs c d s t p)
 
-  joined : answer (shows p) (refuse 0 (literalsCode cs c d) (coded p)) ≡ openedClaim a m cs qs c d s t
+  joined : answer (shows p) (refuse 0 (literalsCode cs c d) (coded p)) ≡ openedClaim b a m cs qs c d s t
   unfolding openedClaim
   joined = ap (λ p. answer (shows p) (refuse 0 (literalsCode cs c d) (coded p))) q
 
   -- 24 of the literals refuses
-  pub literals-stop : (z : Refusal) → wholly (literalsCode cs c d) ≡ some z → endsIn p (some z) ≡ openedClaim a m cs qs c d s t
+  pub literals-stop : (z : Refusal) → wholly (literalsCode cs c d) ≡ some z → endsIn p (some z) ≡ openedClaim b a m cs qs c d s t
   literals-stop z e = sym (ap (answer (shows p)) (refuse-some 0 (literalsCode cs c d) (coded p) z e)) ∙ joined
 
   -- it does not, and the pieces come to o
-  pub pieces-end : wholly (literalsCode cs c d) ≡ none → (o : Option Refusal) → o ≡ piecesCode a m cs qs c d s t p
-      → endsIn p o ≡ openedClaim a m cs qs c d s t
-  pieces-end e o h = ap (endsIn p) h ∙ ends-by-kind (piecesCode a m cs qs c d s t) refl refl p
+  pub pieces-end : wholly (literalsCode cs c d) ≡ none → (o : Option Refusal) → o ≡ piecesCode b a m cs qs c d s t p
+      → endsIn p o ≡ openedClaim b a m cs qs c d s t
+  pieces-end e o h = ap (endsIn p) h ∙ ends-by-kind (piecesCode b a m cs qs c d s t) refl refl p
       ∙ sym (ap (answer (shows p)) (refuse-none 0 (literalsCode cs c d) (coded p) e)) ∙ joined
 
 -- ---- for an accepted description these are the tests of a claim
-module _ (rs cs qs : List ℕ) (a : List ℕ) (c d : ℕ) (s t : List ℕ) (masks : MasksOf rs a) (fine : partsTest rs cs qs ≡ none) where
+module _ (rs cs qs : List ℕ) (o : Option (List ℕ)) (a : List ℕ) (c d : ℕ) (s t : List ℕ) (masks : MasksOf rs (recordsIn o) a)
+    (fine : partsTest rs cs qs o ≡ none) where
   abbrev D : Description
-  D = describe rs cs qs
+  D = describe rs cs qs o
 
   literals-are : (inTable cs c && inTable cs d) ≡ (literalTest D (literal c) && literalTest D (literal d))
   literals-are = rw (half c, half d) refl
 
   module _ (c-in : entryOf (literal c) < length cs / 6) (d-in : entryOf (literal d) < length cs / 6) where
     few : length cs / 6 ≤ mostEntries
-    few = parts-accepted rs cs qs fine .1
+    few = parts-accepted rs cs qs o fine .1
 
     -- C put into a set, and the two sets that are wanted
     put-c : (N : ℕ) → labelWith N c ≡ adding N (literal c)
@@ -190,32 +192,32 @@ module _ (rs cs qs : List ℕ) (a : List ℕ) (c d : ℕ) (s t : List ℕ) (mask
         ap (λ N. labelWith N c)
         (put-is (length cs / 6) 0 (opposed d) few (rw (e, entryOf-opposite (literal d)) d-in) ∙ ap (adding 0) e) ∙ put-c _
 
-    list : (W : List Literal) (N : ℕ) (x : List ℕ) → N ≡ literalSet W → listCode a cs qs N x ≡ listTests D W x
-    list W N x e = let k = parts-accepted rs cs qs fine in ap (λ M. listCode a cs qs M x) e ∙ list-is rs cs qs a W x masks (k .0) (k .1) (k .2)
+    list : (W : List Literal) (N : ℕ) (x : List ℕ) → N ≡ literalSet W → listCode (isThere o) a cs qs N x ≡ listTests D W x
+    list W N x e = let k = parts-accepted rs cs qs o fine in ap (λ M. listCode (isThere o) a cs qs M x) e ∙ list-is rs cs qs o a W x masks (k .0) (k .1) (k .2) (k .3)
 
     graph : (W : List Literal) (N : ℕ) (x : List ℕ) → N ≡ literalSet W → graphCode a (roleCount rs) cs qs N x ≡ graphTests D W x
-    graph W N x e = ap (λ M. graphCode a (roleCount rs) cs qs M x) e ∙ graph-is rs cs qs a W x masks fine
+    graph W N x e = ap (λ M. graphCode a (roleCount rs) cs qs M x) e ∙ graph-is rs cs qs o a W x masks fine
 
-    pieces-are : (p : Pieces) → piecesCode a (roleCount rs) cs qs c d s t p ≡ piecesTests D c d s t p
+    pieces-are : (p : Pieces) → piecesCode (isThere o) a (roleCount rs) cs qs c d s t p ≡ piecesTests D c d s t p
     pieces-are ListAndGraph = ap₂ firstOf (list (counterexample c d) _ s counter-set) (graph (subject c) _ t subject-set)
     pieces-are GraphAlone = graph (counterexample c d) _ s counter-set
     pieces-are ListAlone = list (subject c) _ s subject-set
     pieces-are Misfit = refl
     pieces-are Off = refl
 
-  rest-is : (p : Pieces) → refuse 0 (literalsCode cs c d) (refuse 0 (kindsRefusal p) (piecesCode a (roleCount rs) cs qs c d s t p))
+  rest-is : (p : Pieces) → refuse 0 (literalsCode cs c d) (refuse 0 (kindsRefusal p) (piecesCode (isThere o) a (roleCount rs) cs qs c d s t p))
       ≡ refuse 0 (claimTest D c d) (refuse 0 (kindsRefusal p) (piecesTests D c d s t p))
-  rest-is p = ap (λ b. refuse 0 (unless b 24 none) (refuse 0 (kindsRefusal p) (piecesCode a (roleCount rs) cs qs c d s t p))) literals-are
+  rest-is p = ap (λ b. refuse 0 (unless b 24 none) (refuse 0 (kindsRefusal p) (piecesCode (isThere o) a (roleCount rs) cs qs c d s t p))) literals-are
       ∙ refuse-then 0 (claimTest D c d) _ _ (λ e. let h = unless↔ _ 24 none .0 e .0 in
       let c-in = so-ltb _ _ (and-l _ _ h) in let d-in = so-ltb _ _ (and-r (literalTest D (literal c)) _ h) in
       ap (refuse 0 (kindsRefusal p)) (pieces-are c-in d-in p))
 
 -- a list and then a graph: the list is refused, or it is not
-module _ (a : List ℕ) (m : ℕ) (cs qs : List ℕ) (c d : ℕ) (s t : List ℕ) (p : Pieces) (q : p ≡ ListAndGraph) where
-  pub list-stops : (z : Refusal) → listCode a cs qs (counterSet c d) s ≡ some z → some z ≡ piecesCode a m cs qs c d s t p
+module _ (b : Bool) (a : List ℕ) (m : ℕ) (cs qs : List ℕ) (c d : ℕ) (s t : List ℕ) (p : Pieces) (q : p ≡ ListAndGraph) where
+  pub list-stops : (z : Refusal) → listCode b a cs qs (counterSet c d) s ≡ some z → some z ≡ piecesCode b a m cs qs c d s t p
   list-stops z e = rw (q, e) refl
 
-  pub list-on : listCode a cs qs (counterSet c d) s ≡ none → graphCode a m cs qs (labelWith 0 c) t ≡ piecesCode a m cs qs c d s t p
+  pub list-on : listCode b a cs qs (counterSet c d) s ≡ none → graphCode a m cs qs (labelWith 0 c) t ≡ piecesCode b a m cs qs c d s t p
   list-on e = rw (q, e) refl
 
 -- ---- the description comes first
@@ -224,9 +226,10 @@ module _ (x : List ℕ) (c d : ℕ) (s t : List ℕ) where
   unfolding claimAnswer
   claim-refused n i e = sym (ap (answer (shows (piecesOf s t))) (refuse-some 0 (bytesTest x) _ _ (sym e)))
 
-  pub claim-opened : (a : List ℕ) (m : ℕ) (cs qs : List ℕ) → none ≡ wholly (bytesTest x) → MasksOf (rolesPart x) a → m ≡ roleCount (rolesPart x)
-      → cs ≡ conceptsPart x → qs ≡ queryPart x → openedClaim a m cs qs c d s t ≡ claimAnswer x c d s t
+  pub claim-opened : (b : Bool) (a : List ℕ) (m : ℕ) (cs qs : List ℕ) → none ≡ wholly (bytesTest x)
+      → MasksOf (rolesPart x) (recordsIn (disjointPart x)) a → m ≡ roleCount (rolesPart x) → cs ≡ conceptsPart x → qs ≡ queryPart x → b ≡ four x
+      → openedClaim b a m cs qs c d s t ≡ claimAnswer x c d s t
   unfolding claimAnswer openedClaim
-  claim-opened a m cs qs e masks k p q = rw (k, p, q) (ap (answer (shows (piecesOf s t)))
-      (rest-is (rolesPart x) (conceptsPart x) (queryPart x) a c d s t masks (parts-fine x (sym (wholly-none (bytesTest x) e))) (piecesOf s t)
+  claim-opened b a m cs qs e masks k p q f = rw (k, p, q, f ∙ sym (four-there x)) (ap (answer (shows (piecesOf s t)))
+      (rest-is (rolesPart x) (conceptsPart x) (queryPart x) (disjointPart x) a c d s t masks (parts-fine x (sym (wholly-none (bytesTest x) e))) (piecesOf s t)
       ∙ sym (refuse-none 0 (bytesTest x) _ (sym e))))

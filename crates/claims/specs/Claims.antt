@@ -75,7 +75,7 @@ piecesTests D c d s t ListAlone = listTests D (subject c) s
 piecesTests D c d s t Misfit = none
 piecesTests D c d s t Off = none
 
--- in this order: 1 to 8; 24 of the literals; 9 and 24 of the pieces; 10 to 20
+-- in this order: 1 to 8; 26; 24 of the literals; 9 and 24 of the pieces; 10 to 20
 abbrev pub claimRefused : List ℕ → ℕ → ℕ → List ℕ → List ℕ → Option Refusal
 claimRefused x c d s t = refuse 0 (bytesTest x) (refuse 0 (claimTest (described x) c d)
     (refuse 0 (kindsRefusal (piecesOf s t)) (piecesTests (described x) c d s t (piecesOf s t))))

@@ -10,6 +10,7 @@ use evidence::Head;
 use evidence::read_head;
 use graph_check::test_graph;
 use intake::concepts_part;
+use intake::has_four;
 use intake::open_description;
 use intake::query_part;
 use labels::Label;
@@ -22,6 +23,12 @@ use nodes::opposite;
 pub struct Claim {
     pub c: u8,
     pub d: u8,
+}
+
+// What is asked of an opened description beside its masks and parts: how many roles it has, and whether it has a fourth part.
+struct Shape {
+    roles: u8,
+    marks: bool,
 }
 
 // The kinds of the pieces of evidence, in the order given.
@@ -108,17 +115,17 @@ fn told(t: Tested, p: Pieces) -> Judgement
     }
 }
 
-// The answer on an opened description with a claim, by the masks of so many roles.
+// The answer on an opened description with a claim, by the masks of its roles.
 fn check_opened(
-    m: &[u16; 32],
-    roles: u8,
+    m: &[u16; 49],
+    shape: Shape,
     cs: &[u8],
     qs: &[u8],
     k: Claim,
     first: &[u8],
     second: &[u8],
 ) -> Judgement
-    ensures { λ r. ⌜ ofJudgement r ≡ openedClaim (now (m .entry)) roles (now (cs .entry)) (now (qs .entry)) (k .c) (k .d) (now (first .entry)) (now (second .entry)) ⌝ }
+    ensures { λ r. ⌜ ofJudgement r ≡ openedClaim (shape .marks) (now (m .entry)) (shape .roles) (now (cs .entry)) (now (qs .entry)) (k .c) (k .d) (now (first .entry)) (now (second .entry)) ⌝ }
 {
     let p = kinds(first, second);
     let t = test_literals(cs, k);
@@ -127,14 +134,17 @@ fn check_opened(
     };
     match p {
         Pieces::ListAndGraph => {
-            let u = test_list(m, cs, qs, counterexample(k), first);
+            let u = test_list(m, cs, qs, counterexample(k), first, shape.marks);
             let Tested::Fine = u else {
                 return told(u, p);
             };
-            told(test_graph(m, roles, cs, qs, only(k.c), second), p)
+            told(test_graph(m, shape.roles, cs, qs, only(k.c), second), p)
         }
-        Pieces::GraphAlone => told(test_graph(m, roles, cs, qs, counterexample(k), first), p),
-        Pieces::ListAlone => told(test_list(m, cs, qs, only(k.c), first), p),
+        Pieces::GraphAlone => told(
+            test_graph(m, shape.roles, cs, qs, counterexample(k), first),
+            p,
+        ),
+        Pieces::ListAlone => told(test_list(m, cs, qs, only(k.c), first, shape.marks), p),
         Pieces::Misfit => told(t, p),
         Pieces::Off => told(t, p),
     }
@@ -149,8 +159,12 @@ pub fn check_claim(description: &[u8], c: u8, d: u8, first: &[u8], second: &[u8]
     let m = o.masks;
     let cs = concepts_part(description);
     let qs = query_part(description);
+    let shape = Shape {
+        roles: o.count,
+        marks: has_four(description),
+    };
     match tested {
-        Tested::Fine => check_opened(&m, o.count, cs, qs, Claim { c: c, d: d }, first, second),
+        Tested::Fine => check_opened(&m, shape, cs, qs, Claim { c: c, d: d }, first, second),
         Tested::Refused(n, r) => Judgement::Refused(n, r),
     }
 }

@@ -81,7 +81,7 @@ fn with_above(x: u16, above: u16, m: u16, u: u8) -> u16
 }
 
 // The mask `m` with the ancestors of the roles of `t` in it.
-fn raised(m: u16, t: u16, a: &[u16; 32]) -> u16
+fn raised(m: u16, t: u16, a: &[u16; 49]) -> u16
     ensures { λ r. ⌜ r ≡ raisedTo m t (now (a .entry)) 16 ⌝ }
 {
     let closed = m & t;
@@ -98,7 +98,7 @@ fn raised(m: u16, t: u16, a: &[u16; 32]) -> u16
 }
 
 // Every pair has the ancestors of its roles of `t`.
-fn raise(buf: &mut [u8], at: usize, n: u8, t: u16, a: &[u16; 32])
+fn raise(buf: &mut [u8], at: usize, n: u8, t: u16, a: &[u16; 49])
     requires { ⌜ masksEnd at n ≤ length (now buf) ⌝ }
     ensures { λ _. ⌜ Masks at (raisedMask (now (buf .entry)) at t (now (a .entry))) (now (buf .entry)) (n * n) (now (buf .exit)) ⌝ }
 {
@@ -116,7 +116,7 @@ fn raise(buf: &mut [u8], at: usize, n: u8, t: u16, a: &[u16; 32])
 
 // The transitive roles (mask `t`) of `d` elements closed, and their pairs handed to their ancestors (in front in the masks `a`). The role masks lie from
 // `at` on.
-pub fn close_roles(buf: &mut [u8], at: usize, d: u8, t: u16, a: &[u16; 32])
+pub fn close_roles(buf: &mut [u8], at: usize, d: u8, t: u16, a: &[u16; 49])
     ensures { λ _. ⌜ (length (now (buf .exit)) ≡ length (now (buf .entry))) × ((p : ℕ) → byteAt (now (buf .exit)) p ≡ closedByte (now (buf .entry)) at d t (now (a .entry)) p) ⌝ }
 {
     let n = d as usize;

@@ -3,7 +3,7 @@
 use Prim.Native.Nat.{ℕ, zero, suc, _+_, _-_, _^_, _≤_, _<_}
 use mathlib.Core.Path.{_≡_, refl, sym, _∙_, ap, subst, fun-ext}
 use mathlib.Core.Logic.{_↔_, _⊎_, inl, inr}
-use mathlib.Core.Bool.{Bool, true, false, not, _||_, false≢true}
+use mathlib.Core.Bool.{Bool, true, false, not, _||_}
 use mathlib.Core.List.{List, [], _∷_, _++_}
 use native.Mathlib.Omega.{arith}
 use lib.ListN.{length, getD, take}
@@ -16,9 +16,9 @@ use Rattle.counting.specs.Trees.{Tree, formed}
 use Rattle.counting.specs.TreeLaws.{tree-open}
 use Rattle.counting.specs.Rows.{Closed, limits}
 use Rattle.description.specs.Literals.{Literal, pos, neg, opposite, code, entryOf, Label, members, plus, Within, InTable, labelOf, members-labelOf, literal-same}
-use Rattle.description.specs.Descriptions.{both, Description}
-use Rattle.refutation.specs.Cells.{rowOf, isRow, rowsOf, bounds, Known, length-rows, length-bounds}
-use Rattle.refutation.specs.Records.{Cell, unshown, cited, isOpen, openAt, cellAt, literalAt, Counting, Step, contradiction, conjunction, disjunction, byRule, caseSplit, counting, Record, Refutation, recordAt, numberAt, Formed, RecordOk, Valid}
+use Rattle.description.specs.Descriptions.{both, Description, Compatible}
+use Rattle.refutation.specs.Cells.{rowOf, isRow, rowsOf, bounds, cellRole, Known, length-rows, length-bounds}
+use Rattle.refutation.specs.Records.{Cell, unshown, cited, barred, isOpen, openAt, cellAt, literalAt, Counting, Step, contradiction, conjunction, disjunction, byRule, caseSplit, counting, Record, Refutation, recordAt, numberAt, Formed, CellFits, RecordOk, Valid}
 
 pub record Extends (C C′ : Refutation) : Type 0 where
   pub longer : length C ≤ length C′
@@ -86,19 +86,14 @@ module _ (D : Description) (num num′ : ℕ → ℕ) (i : ℕ) (L : Label) (sam
     in-table = o .in-table;
     cite-ok = o .cite-ok;
     step-ok = o .step-ok;
-    cell-ok = λ c h p j q l u. o .cell-ok c h p j q l (subst (λ n. So (members n l)) (same j (o .cite-ok .1 c h p j q)) u);
+    cell-ok = λ c h p. fits c (cellAt (K .cells) c) (λ j q. o .cite-ok .1 c h p j q) (o .cell-ok c h p);
     tree-ok = o .tree-ok;
   }
-
-not-cited : (j : ℕ) → unshown ≡ cited j → ⊥
-not-cited j q = false≢true (sym (ap isOpen q))
-
-same-cite : (i j : ℕ) → cited i ≡ cited j → i ≡ j
-same-cite i j q = ap number q
-  where
-    number : Cell → ℕ
-    number unshown = 0
-    number (cited j) = j
+    where
+      fits : (c : ℕ) (x : Cell) → ((j : ℕ) → x ≡ cited j → j < i) → CellFits D num i L (rowsOf D (K .rows)) c x → CellFits D num′ i L (rowsOf D (K .rows)) c x
+      fits c unshown h f = f
+      fits c (cited j) h f = (f .0, λ l u. f .1 l (subst (λ n. So (members n l)) (same j (h j refl)) u))
+      fits c barred h f = f
 
 -- ---- one more record
 abbrev append : Refutation → ℕ → Step → Refutation
@@ -226,8 +221,20 @@ module _ (D : Description) (L : Label) (t : InTable (D .entries) L) where
       finish C (caseSplit e (r .first) (r .second)) (r .list) (r .valid) (r .extends) tt
       (record { in-table = t; cite-ok = (h, (r .first-in, r .second-in)); step-ok = (r .first-lies, r .second-lies); cell-ok = tt; tree-ok = tt })
 
-  -- counting: one cite for each cell that is not open; cell i + 1 is number i of the list
-  module _ (open? : ℕ → Bool) (known : ℕ → Label) where
+  -- counting: cells are open, or barred, or one cite each shows them empty; a cell is free if its roles are those of one pair, and open cells are.
+  -- Cell i + 1 is number i of the list
+  module _ (open? free : ℕ → Bool) (known : ℕ → Label) where
+    -- what stands for cell c under a list of records
+    abbrev Shows : Refutation → ℕ → Cell → Type 0
+    Shows C c unshown = So (open? c)
+    Shows C c (cited j) = So (free c) × (j < length C) × Within (members (numberAt C j)) (known c)
+    Shows C c barred = So (free c) → ⊥
+
+    shows-on : (C C′ : Refutation) → Extends C C′ → (c : ℕ) (x : Cell) → Shows C c x → Shows C′ c x
+    shows-on C C′ e c unshown h = h
+    shows-on C C′ e c (cited j) h = (h .0, omega (arith, h .1, e .longer), rw (e .keeps j (h .1)) (h .2))
+    shows-on C C′ e c barred h = h
+
     record Cells (C : Refutation) (m : ℕ) : Type 0 where
       list : Refutation
       valid : Valid D list
@@ -235,7 +242,7 @@ module _ (D : Description) (L : Label) (t : InTable (D .entries) L) where
       cells : List Cell
       long : length cells ≡ m
       marks : (i : ℕ) → i < m → isOpen (getD cells i unshown) ≡ open? (suc i)
-      cites : (i : ℕ) → i < m → (j : ℕ) → getD cells i unshown ≡ cited j → (j < length list) × Within (members (numberAt list j)) (known (suc i))
+      shows : (i : ℕ) → i < m → Shows list (suc i) (getD cells i unshown)
 
     no-cells : (C : Refutation) → Valid D C → Cells C 0
     no-cells C v = record {
@@ -245,12 +252,12 @@ module _ (D : Description) (L : Label) (t : InTable (D .entries) L) where
       cells = [];
       long = refl;
       marks = λ i h. absurd (omega arith);
-      cites = λ i h. absurd (omega arith);
+      shows = λ i h. absurd (omega arith);
     }
 
     -- one cell more, after a list that extends the one so far
     one-cell : (C : Refutation) (m : ℕ) (S : Cells C m) (C′ : Refutation) → Valid D C′ → Extends (S .list) C′ → (x : Cell) → isOpen x ≡ open? (suc m)
-        → ((j : ℕ) → x ≡ cited j → (j < length C′) × Within (members (numberAt C′ j)) (known (suc m))) → Cells C (suc m)
+        → Shows C′ (suc m) x → Cells C (suc m)
     one-cell C m S C′ v e x o w = record {
       list = C′;
       valid = v;
@@ -258,9 +265,9 @@ module _ (D : Description) (L : Label) (t : InTable (D .entries) L) where
       cells = S .cells ++ (x ∷ []);
       long = length-snoc (S .cells) x ∙ ap suc (S .long);
       marks = up-to (λ i. isOpen (getD (S .cells ++ (x ∷ [])) i unshown) ≡ open? (suc i)) m (λ i h. rw (old i h) (S .marks i h)) (rw new o);
-      cites = up-to (λ i. (j : ℕ) → getD (S .cells ++ (x ∷ [])) i unshown ≡ cited j → (j < length C′) × Within (members (numberAt C′ j)) (known (suc i))) m
-          (λ i h j q. let u = S .cites i h j (sym (old i h) ∙ q) in (omega (arith, u .0, e .longer), rw (e .keeps j (u .0)) (u .1)))
-          (λ j q. w j (sym new ∙ q));
+      shows = up-to (λ i. Shows C′ (suc i) (getD (S .cells ++ (x ∷ [])) i unshown)) m
+          (λ i h. subst (Shows C′ (suc i)) (sym (old i h)) (shows-on (S .list) C′ e (suc i) (getD (S .cells) i unshown) (S .shows i h)))
+          (subst (Shows C′ (suc m)) (sym new) w);
     }
       where
         old : (i : ℕ) → i < m → getD (S .cells ++ (x ∷ [])) i unshown ≡ getD (S .cells) i unshown
@@ -269,43 +276,50 @@ module _ (D : Description) (L : Label) (t : InTable (D .entries) L) where
         new : getD (S .cells ++ (x ∷ [])) m unshown ≡ x
         new = ap (λ k. getD (S .cells ++ (x ∷ [])) k unshown) (sym (S .long)) ∙ at-snoc-new (S .cells) x unshown
 
-    all-cells : (C : Refutation) → Valid D C → (m : ℕ) → ((i : ℕ) → i < m → (So (open? (suc i)) → ⊥) → Derivable D (known (suc i))) → Cells C m
-    all-cells C v zero d = no-cells C v
-    all-cells C v (suc m) d = go (all-cells C v m (λ i h. d i (omega arith))) (decide (open? (suc m)))
-      where
-        go : Cells C m → So (open? (suc m)) ⊎ (So (open? (suc m)) → ⊥) → Cells C (suc m)
-        go S (inl o) = one-cell C m S (S .list) (S .valid) (extends-refl (S .list)) unshown (sym o) (λ j q. absurd (not-cited j q))
-        go S (inr o) = let r = d m (omega arith) o (S .list) (S .valid) in
-            one-cell C m S (r .list) (r .valid) (r .extends) (cited (r .at)) (sym (so-false _ o))
-            (λ j q. let e = same-cite (r .at) j q in subst (λ j. (j < length (r .list)) × Within (members (numberAt (r .list) j)) (known (suc m))) e (r .at-in, r .lies))
+    module _ (open-free : (c : ℕ) → So (open? c) → So (free c)) where
+      all-cells : (C : Refutation) → Valid D C → (m : ℕ) → ((i : ℕ) → i < m → So (free (suc i)) → (So (open? (suc i)) → ⊥) → Derivable D (known (suc i))) → Cells C m
+      all-cells C v zero d = no-cells C v
+      all-cells C v (suc m) d = go (all-cells C v m (λ i h. d i (omega arith))) (decide (free (suc m))) (decide (open? (suc m)))
+        where
+          go : Cells C m → So (free (suc m)) ⊎ (So (free (suc m)) → ⊥) → So (open? (suc m)) ⊎ (So (open? (suc m)) → ⊥) → Cells C (suc m)
+          go S (inr b) o = one-cell C m S (S .list) (S .valid) (extends-refl (S .list)) barred (sym (so-false _ (λ u. b (open-free (suc m) u)))) b
+          go S (inl b) (inl o) = one-cell C m S (S .list) (S .valid) (extends-refl (S .list)) unshown (sym o) o
+          go S (inl b) (inr o) = let r = d m (omega arith) b o (S .list) (S .valid) in
+              one-cell C m S (r .list) (r .valid) (r .extends) (cited (r .at)) (sym (so-false _ o)) (b, r .at-in, r .lies)
 
-    pub by-counting : (lits : List Literal) → ((c : ℕ) (l : Literal) → So (known c l) → Known D L (rowsOf D lits) c l) → 1 ≤ length lits
-        → ((l : Literal) → l ∈ lits → So (L l) × So (isRow (rowOf D l)))
-        → ((j : ℕ) → j < length lits → suc j < length lits → code (literalAt lits j) < code (literalAt lits (suc j)))
-        → ((c : ℕ) → 0 < c → c < 2 ^ length lits → (So (open? c) → ⊥) → Derivable D (known c))
-        → (tree : Tree) → So (formed (length lits) tree) → Closed (bounds (rowsOf D lits)) open? tree → Derivable D L
-    by-counting lits shown some inside rising d tree f closed C v = finish C (counting K) (S .list) (S .valid) (S .extends)
-        (some, (omega (arith, S .long, pow-pos (length lits)), f))
-        (record {
-          in-table = t;
-          cite-ok = (λ l m. t l (inside l m .0), λ c h p j q. at c h p j q .0);
-          step-ok = (inside, rising);
-          cell-ok = λ c h p j q l u. shown c l (at c h p j q .1 l u);
-          tree-ok = tree-open (2 ^ length (bounds (rowsOf D lits))) open? (openAt (S .cells))
-              (λ c h p. opened c (rw (length-bounds (rowsOf D lits), length-rows D lits) at h) p) (limits (bounds (rowsOf D lits))) tree closed;
-        })
-      where
-        S : Cells C (2 ^ length lits - 1)
-        S = all-cells C v (2 ^ length lits - 1) (λ i h. d (suc i) (omega arith) (omega arith))
+      pub by-counting : (lits : List Literal) → ((c : ℕ) → So (free c) ↔ Compatible D (cellRole D (rowsOf D lits) c))
+          → ((c : ℕ) (l : Literal) → So (known c l) → Known D L (rowsOf D lits) c l) → 1 ≤ length lits
+          → ((l : Literal) → l ∈ lits → So (L l) × So (isRow (rowOf D l)))
+          → ((j : ℕ) → j < length lits → suc j < length lits → code (literalAt lits j) < code (literalAt lits (suc j)))
+          → ((c : ℕ) → 0 < c → c < 2 ^ length lits → So (free c) → (So (open? c) → ⊥) → Derivable D (known c))
+          → (tree : Tree) → So (formed (length lits) tree) → Closed (bounds (rowsOf D lits)) open? tree → Derivable D L
+      by-counting lits compatible shown some inside rising d tree f closed C v = finish C (counting K) (S .list) (S .valid) (S .extends)
+          (some, (omega (arith, S .long, pow-pos (length lits)), f))
+          (record {
+            in-table = t;
+            cite-ok = (λ l m. t l (inside l m .0), λ c h p j q. subst (Shows (S .list) c) q (at c h p) .1);
+            step-ok = (inside, rising);
+            cell-ok = λ c h p. fits c (cellAt (S .cells) c) (at c h p);
+            tree-ok = tree-open (2 ^ length (bounds (rowsOf D lits))) open? (openAt (S .cells))
+                (λ c h p. opened c (rw (length-bounds (rowsOf D lits), length-rows D lits) at h) p) (limits (bounds (rowsOf D lits))) tree closed;
+          })
+        where
+          S : Cells C (2 ^ length lits - 1)
+          S = all-cells C v (2 ^ length lits - 1) (λ i h. d (suc i) (omega arith) (omega arith))
 
-        K : Counting
-        K = record { rows = lits; cells = S .cells; tree = tree }
+          K : Counting
+          K = record { rows = lits; cells = S .cells; tree = tree }
 
-        -- a cell above 0 by its number in the list
-        at : (c : ℕ) → c < 2 ^ length lits → 0 < c → (j : ℕ) → cellAt (S .cells) c ≡ cited j → (j < length (S .list)) × Within (members (numberAt (S .list) j)) (known c)
-        at zero h p j q = absurd (omega arith)
-        at (suc i) h p j q = let e : suc i - 1 ≡ i = omega arith in S .cites i (omega arith) j (rw e at q)
+          -- a cell above 0 by its number in the list
+          at : (c : ℕ) → c < 2 ^ length lits → 0 < c → Shows (S .list) c (cellAt (S .cells) c)
+          at zero h p = absurd (omega arith)
+          at (suc i) h p = let e : suc i - 1 ≡ i = omega arith in rw e (S .shows i (omega arith))
 
-        opened : (c : ℕ) → c < 2 ^ length lits → 0 < c → openAt (S .cells) c ≡ open? c
-        opened zero h p = absurd (omega arith)
-        opened (suc i) h p = let e : suc i - 1 ≡ i = omega arith in rw e (S .marks i (omega arith))
+          fits : (c : ℕ) (x : Cell) → Shows (S .list) c x → CellFits D (numberAt (S .list)) (length (S .list)) L (rowsOf D lits) c x
+          fits c unshown w = compatible c .0 (open-free c w)
+          fits c (cited j) w = (compatible c .0 (w .0), λ l u. shown c l (w .2 l u))
+          fits c barred w = λ a. w (compatible c .1 a)
+
+          opened : (c : ℕ) → c < 2 ^ length lits → 0 < c → openAt (S .cells) c ≡ open? c
+          opened zero h p = absurd (omega arith)
+          opened (suc i) h p = let e : suc i - 1 ≡ i = omega arith in rw e (S .marks i (omega arith))

@@ -18,11 +18,11 @@ use Rattle.counting.specs.Trees.{Tree, formed, live}
 use Rattle.counting.specs.Rows.{Solves, Closed}
 use Rattle.counting.specs.Solutions.{closed-sound, solved-or-closed}
 use Rattle.description.specs.Literals.{Literal, pos, neg, opposite, opposite-opposite, entryOf, entryOf-opposite, Label, plus, plus↔, Within, InTable, literal-same}
-use Rattle.description.specs.Descriptions.{Entry, top, name, both, every, atLeast, Description, ifBoth}
+use Rattle.description.specs.Descriptions.{Entry, top, name, both, every, atLeast, Description, compatible, compatible↔, ifBoth}
 use Rattle.description.specs.Acceptance.{Accepted, fields-at}
 use Rattle.graph.specs.Graphs.{Edge, LabelOk, NodeOk}
 use Rattle.graph.specs.GraphTests.{bothTest, both↔}
-use Rattle.refutation.specs.Cells.{Row, rowOf, isRow, rowFrom, rowsOf, rowAt, bounds, RowIn, known, known↔, rows-in, known-in, length-rows, length-bounds, bound-at, row-at}
+use Rattle.refutation.specs.Cells.{Row, rowOf, isRow, rowFrom, rowsOf, rowAt, bounds, RowIn, cellRole, known, known↔, rows-in, known-in, length-rows, length-bounds, bound-at, row-at}
 use Rattle.completeness.specs.Derivable.{Derivable, derivable-mono, by-contradiction, by-bottom, by-conjunction, by-disjunction, by-rule, by-counting}
 use Rattle.completeness.specs.Types.{chosen, typ, pos-in, neg-in, pos-out, typ-in, typ-full, typ-one, typ-cong, chosen-in, lies, lies↔, resolve}
 use Rattle.completeness.specs.TypeRows.{TypeRows, rowsOfType, at-places}
@@ -134,24 +134,31 @@ module _ (D : Description) (A : Accepted D) where
     shown-in : (m : ℕ) → InTable n (shown m)
     shown-in m l h = known-in D A (type c) rows m rows-ok l (known↔ D (type c) rows m l .0 h)
 
-    -- a cell is open if a remaining type contains its known label
+    -- a cell is open if its roles are those of one pair and a remaining type contains its known label
+    abbrev free : ℕ → Bool
+    free m = compatible D (cellRole D rows m)
+
     abbrev over : ℕ → ℕ → Bool
     over m t = S t && lies n (shown m) (type t)
 
     open? : ℕ → Bool
-    open? m = anyBelow (2 ^ n) (over m)
+    open? m = free m && anyBelow (2 ^ n) (over m)
 
-    shut-derivable : (m : ℕ) → (So (open? m) → ⊥) → Derivable D (shown m)
+    shut-derivable : (m : ℕ) → So (free m) → (So (open? m) → ⊥) → Derivable D (shown m)
     unfolding open?
-    shut-derivable m o = none-contains S dropped (shown m) (shown-in m)
-        (λ t ht st w. o (any-intro (2 ^ n) (over m) t ht (so-and _ _ st (lies↔ n (shown m) (type t) (shown-in m) .1 w))))
+    shut-derivable m a o = none-contains S dropped (shown m) (shown-in m)
+        (λ t ht st w. o (so-and (free m) _ a (any-intro (2 ^ n) (over m) t ht (so-and _ _ st (lies↔ n (shown m) (type t) (shown-in m) .1 w)))))
+
+    open-free : (m : ℕ) → So (open? m) → So (free m)
+    unfolding open?
+    open-free m o = and-l (free m) _ o
 
     pick : ℕ → ℕ
     pick m = find (2 ^ n) (over m)
 
     pick-ok : (m : ℕ) → So (open? m) → (pick m < 2 ^ n) × So (over m (pick m))
     unfolding open? pick
-    pick-ok m o = find-ok (2 ^ n) (over m) o
+    pick-ok m o = find-ok (2 ^ n) (over m) (and-r (free m) _ o)
 
     -- the rows decide: a solution gives edges to remaining types, a closing tree a counting step
     by-rows : LabelOk D [] (type c) → So (bothTest D (type c)) → Supported S c ⊎ Derivable D (type c)
@@ -168,6 +175,7 @@ module _ (D : Description) (A : Accepted D) where
             (λ i h. rw (length-bounds rows, bound-at rows i) at (s i (rw (length-bounds rows) h)))
             pick (λ m _ o. pick-ok m (opened m o) .0)
             (λ m _ o l k. lies↔ n (shown m) (type (pick m)) (shown-in m) .0 (and-r (S (pick m)) _ (pick-ok m (opened m o) .1)) l (known↔ D (type c) rows m l .1 k))
+            (λ m o. compatible↔ D (cellRole D rows m) .0 (open-free m (opened m o)))
             [] lok (both↔ D (type c) .0 bok)
             (λ e he r. let v = T .there e he r in (v .0, omega (arith, v .1, length-rows D (T .lits)), row-at D (T .lits) (v .0) (v .1) ∙ ap (λ l. rowFrom (rowOf D l)) (v .2))) in
             record {
@@ -177,8 +185,8 @@ module _ (D : Description) (A : Accepted D) where
             }
 
         closing : 1 ≤ length (T .lits) → (t : Tree) → So (formed (length (bounds rows)) t) → Closed (bounds rows) open? t → Derivable D (type c)
-        closing h t f k = by-counting D (type c) (typ-in n p) open? shown (T .lits) (λ m l u. known↔ D (type c) rows m l .0 u) h
-            (λ l m. (typ-has l m, lits-rows l m)) (T .rising) (λ m _ _ o. shut-derivable m o) t
+        closing h t f k = by-counting D (type c) (typ-in n p) open? free shown open-free (T .lits) (λ m. compatible↔ D (cellRole D rows m)) (λ m l u. known↔ D (type c) rows m l .0 u) h
+            (λ l m. (typ-has l m, lits-rows l m)) (T .rising) (λ m _ _ a o. shut-derivable m a o) t
             (rw (length-bounds rows, length-rows D (T .lits)) at f) k
 
         no-rows : (1 ≤ length (T .lits) → ⊥) → (t : Tree) → Closed (bounds rows) open? t → ⊥

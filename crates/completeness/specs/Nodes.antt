@@ -18,7 +18,7 @@ use Rattle.logic.specs.SetLaws.{setOf↔, some-member, has-lt}
 use Rattle.counting.specs.Trees.{Side, lower, upper, Meets, live}
 use Rattle.counting.specs.Rows.{Bound, boundAt, Solves}
 use Rattle.description.specs.Literals.{Literal, pos, neg, opposite, entryOf, Label, InTable}
-use Rattle.description.specs.Descriptions.{Entry, top, name, both, every, atLeast, Description}
+use Rattle.description.specs.Descriptions.{Entry, top, name, both, every, atLeast, Description, Compatible}
 use Rattle.description.specs.Roles.{ancestor, anc-refl, anc-in, anc-trans}
 use Rattle.description.specs.Acceptance.{Accepted, fields-at}
 use Rattle.graph.specs.Graphs.{Edge, ofRole, total, counted, LabelOk, BothOk, EdgeOk, NodeOk}
@@ -33,7 +33,8 @@ module _ (D : Description) (A : Accepted D) (p : ℕ → Bool) (size : ℕ) (lab
     → Meets (rowAt rows i .side) (rowAt rows i .bound) (Trees.total (2 ^ length rows) open? x (λ c. has c i)))
     (pick : ℕ → ℕ) (pick-in : (c : ℕ) → c < 2 ^ length rows → So (live open? c) → pick c < size)
     (pick-has : (c : ℕ) → c < 2 ^ length rows → So (live open? c) → (l : Literal)
-    → Known D (typ (D .entries) p) rows c l → So (typ (D .entries) (lab (pick c)) l)) where
+    → Known D (typ (D .entries) p) rows c l → So (typ (D .entries) (lab (pick c)) l))
+    (free : (c : ℕ) → So (live open? c) → Compatible D (cellRole D rows c)) where
   abbrev n : ℕ
   n = D .entries
 
@@ -120,6 +121,7 @@ module _ (D : Description) (A : Accepted D) (p : ℕ → Bool) (size : ℕ) (lab
           let i = has-lt (length rows) c (w .0) h (w .1) in (rowAt rows (w .0) .role, mask↔ c (rowAt rows (w .0) .role) .1 (roles-own c (w .0) i (w .1)));
       roles-in = λ r u. roles-in c r (mask↔ c r .0 u);
       roles-up = λ r _ u s _ a. mask↔ c s .1 (roles-up c r s (mask↔ c r .0 u) a);
+      roles-compatible = λ i hi u v. free c o i hi (mask↔ c (D .disjoint i .one) .0 u) (mask↔ c (D .disjoint i .other) .0 v);
       some-copy = omega (arith, only-on (live open? c) (x c) o);
     });
     every-ok = λ e he r l q. (

@@ -1,6 +1,7 @@
 pub mod Exact
 pub mod Lifted
 pub mod Widths
+pub mod ThreePairs
 pub mod InTable
 pub mod Cut
 pub mod Trials
@@ -9,3 +10,4 @@ pub mod Steps
 pub mod ClaimExact
 pub mod ClaimTrials
 pub mod WideTrials
+pub mod DisjointTrials

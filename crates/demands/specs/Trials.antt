@@ -12,14 +12,14 @@ use Rattle.logic.specs.Sums.{maxBelow}
 use Rattle.counting.specs.Trees.{formed, depth, leafTest, treeTest}
 use Rattle.parts.specs.Pairs.{fills, fillsFrom}
 use Rattle.description.specs.Literals.{literal, members, adding, literalSet, labelOf}
-use Rattle.description.specs.Descriptions.{entryFrom, sameEntry, ifBoth, ifEvery, ifLeast, isBoth}
+use Rattle.description.specs.Descriptions.{compatible, entryFrom, sameEntry, ifBoth, ifEvery, ifLeast, isBoth}
 use Rattle.description.specs.Roles.{ancestor, simple}
 use Rattle.description.specs.Acceptance.{entryTest, descriptionTests}
 use Rattle.graph.specs.Graphs.{total}
 use Rattle.graph.specs.GraphTests.{labelTest, bothTest, edgeTest, everyTest, countTest, nodeRefusal, graphRefusal}
 use Rattle.graph.specs.Line.{copies, joins, direct, pairs}
 use Rattle.refutation.specs.Cells.{rowsOf, bounds, cellRole, known}
-use Rattle.refutation.specs.RecordTests.{whenCounting, ifCited, citeTest, stepTest, recordRefusal, endLabel, refutationRefusal}
+use Rattle.refutation.specs.RecordTests.{whenCounting, ifCited, cellFits, citeTest, stepTest, recordRefusal, endLabel, refutationRefusal}
 use Rattle.intake.specs.Intake.{sizesTest, partsTest, bytesTest}
 use Rattle.labels.specs.Labels.{labelBytes, nameBytes, labelIn, namesIn}
 use Rattle.evidence.specs.Evidence.{headTest, headOf, nodeFormTest}
@@ -48,7 +48,7 @@ pub data Outcome : Type 0 where
 unfoldable pub outcome : Trial → Outcome
 unfolding verdict claimAnswer pieces bytesTest partsTest sizesTest fills fillsFrom descriptionTests entryTest entryFrom simple ancestor closure sameEntry ifBoth ifEvery ifLeast isBoth
     headTest headOf labelBytes labelIn nameBytes namesIn nodeFormTest graphTests graphRefused graphRefusal nodeRefusal labelTest bothTest edgeTest everyTest countTest total
-    recordFormTest nodeIn treeIn countingIn stepOf listTests refutationRefusal recordRefusal whenCounting ifCited citeTest stepTest endLabel
+    recordFormTest nodeIn treeIn countingIn stepOf listTests refutationRefusal recordRefusal whenCounting ifCited cellFits compatible citeTest stepTest endLabel
     formed depth leafTest treeTest rowsOf bounds known cellRole writeRefused copies maxBelow lineByte joins direct pairs
     literal members adding literalSet labelOf refuseFrom allBelow anyBelow each tabulate has nonempty narrow within with setOf
 outcome (checks d s) = tells (verdict d s)

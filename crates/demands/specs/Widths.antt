@@ -38,10 +38,10 @@ use Rattle.verdict.specs.Verdict.{verdict}
 
 -- ---- which width
 module _ (D : Description) where
-  pub narrow-when : D .entries ≤ 32 → layoutOf D ≡ record { wide = false }
+  pub narrow-when : D .entries ≤ 32 → layoutOf D ≡ record { wide = false; marks = D .fourth }
   narrow-when few = rw (le-ltb 32 (D .entries) few) refl
 
-  pub wide-when : 32 < D .entries → layoutOf D ≡ record { wide = true }
+  pub wide-when : 32 < D .entries → layoutOf D ≡ record { wide = true; marks = D .fourth }
   wide-when many = rw (lt-ltb 32 (D .entries) many) refl
 
   pub label-bytes : (D .entries ≤ 32 → labelSize (layoutOf D) ≡ 8) × (32 < D .entries → labelSize (layoutOf D) ≡ 16)
@@ -73,7 +73,7 @@ module _ (D : Description) (few : D .entries ≤ 32) where
     graph-before = rw (le-ltb 32 (D .entries) few) refl
 
     pub refutation-before : refutationIn (layoutOf D) s
-        ≡ tabulate (recordCount s) (λ i. let r = recordAt s i in record { label = label8 r 0; step = stepFrom (stepIn (drop 8 r)) })
+        ≡ tabulate (recordCount s) (λ i. let r = recordAt s i in record { label = label8 r 0; step = stepFrom (stepIn (D .fourth) (drop 8 r)) })
     unfolding labelBytes labelIn
     refutation-before = rw (le-ltb 32 (D .entries) few) refl
 
@@ -82,7 +82,7 @@ module _ (D : Description) (few : D .entries ≤ 32) where
   unfolding labelBytes
   node-form-before n = rw (le-ltb 32 (D .entries) few) refl
 
-  pub record-form-before : (r : List ℕ) → RecordForm (layoutOf D) r ≡ ((8 ≤ length r) × ((x : Step) × (stepIn (drop 8 r) ≡ some x)))
+  pub record-form-before : (r : List ℕ) → RecordForm (layoutOf D) r ≡ ((8 ≤ length r) × ((x : Step) × (stepIn (D .fourth) (drop 8 r) ≡ some x)))
   unfolding labelBytes
   record-form-before r = rw (le-ltb 32 (D .entries) few) refl
 
@@ -137,11 +137,11 @@ module _ (D : Description) (W : List Literal) (s : List ℕ) (head : HeadOk s) (
 
   -- of 8 bytes under a table of more than 32 entries
   pub narrow-graph : 32 < D .entries → (m : ℕ) → length (recordAt s 0) ≡ 8 + 5 * m → graphTests D W s ≡ some ten
-  narrow-graph many m e = form-refused (ap (nodeFormTest (layoutOf D)) e ∙ ap (λ f. nodeFormTest f (8 + 5 * m)) (wide-when D many) ∙ other-width m .0)
+  narrow-graph many m e = form-refused (ap (nodeFormTest (layoutOf D)) e ∙ ap (λ f. nodeFormTest f (8 + 5 * m)) (wide-when D many) ∙ other-width (D .fourth) m .0)
 
   -- of 16 under one of at most 32
   pub wide-graph : D .entries ≤ 32 → (m : ℕ) → length (recordAt s 0) ≡ 16 + 5 * m → graphTests D W s ≡ some ten
-  wide-graph few m e = form-refused (ap (nodeFormTest (layoutOf D)) e ∙ ap (λ f. nodeFormTest f (16 + 5 * m)) (narrow-when D few) ∙ other-width m .1)
+  wide-graph few m e = form-refused (ap (nodeFormTest (layoutOf D)) e ∙ ap (λ f. nodeFormTest f (16 + 5 * m)) (narrow-when D few) ∙ other-width (D .fourth) m .1)
 
 -- so is the verdict on it, for an accepted description
 module _ (d s : List ℕ) (accepted : AcceptedBytes d) (head : HeadOk s) (is-graph : byteAt s 0 ≡ 1) where

@@ -1,4 +1,4 @@
--- When a description is accepted: tests 3 to 8 of the table of refusals (FORMAT 3), stated and as tests in the table's order.
+-- When a description is accepted: tests 3 to 8 of the table of refusals and 26 (02, job 5; FORMAT 3), stated and as tests in the table's order.
 -- Each test is made of tests of one item against the table. What only bytes can get wrong of a role (its transitive byte) and of an
 -- entry (an unknown kind, a field that is not used) belongs to 3 and 4 and comes in as two further tests, one of each.
 use Prim.Native.Nat.{ℕ, zero, suc, _≤_, _<_}
@@ -15,7 +15,7 @@ use Rattle.logic.specs.Sets.{narrow}
 use Rattle.logic.specs.SetLaws.{narrow↔}
 use Rattle.logic.specs.Refusals.{unless, unless↔}
 use Rattle.description.specs.Literals.{Literal, entryOf}
-use Rattle.description.specs.Descriptions.{Entry, top, name, both, every, atLeast, Description, included, compound, sameEntry, sameEntry↔, ifEvery, ifLeast, kinds}
+use Rattle.description.specs.Descriptions.{Entry, top, name, both, every, atLeast, Disjoint, Description, included, compound, sameEntry, sameEntry↔, ifEvery, ifLeast, kinds}
 use Rattle.description.specs.Roles.{ancestor, simple}
 
 -- the greatest number of an "at least"
@@ -34,6 +34,10 @@ EntryOk D e (atLeast r l n) = ((r < D .roles) × (entryOf l < e)) × ((1 ≤ n) 
 abbrev pub EveryBelow : Description → ℕ → Literal → Type 0
 EveryBelow D r l = (t : ℕ) → t < D .roles → So (D .transitive t) → So (ancestor D t r) → (f : ℕ) × (f < D .entries) × (every t l ≡ D .entry f)
 
+-- 26, of one record: two roles of the table, not the same, both simple
+abbrev pub DisjointOk : Description → Disjoint → Type 0
+DisjointOk D p = ((p .one < D .roles) × (p .other < D .roles)) × ((p .one ≢ p .other) × (So (simple D (p .one)) × So (simple D (p .other))))
+
 pub record Accepted (D : Description) : Type 0 where
   -- 2, in part: there is a role and an entry (the greatest sizes are the byte level's)
   pub some-role : 1 ≤ D .roles
@@ -51,6 +55,8 @@ pub record Accepted (D : Description) : Type 0 where
   -- 8: the root and the rules are literals of the table
   pub root-in : entryOf (D .root) < D .entries
   pub rules-in : (i : ℕ) → i < D .rules → entryOf (D .rule i) < D .entries
+  -- 26
+  pub disjoints-ok : (i : ℕ) → i < D .disjoints → DisjointOk D (D .disjoint i)
 
 -- ---- the tests
 -- 3, of one role
@@ -81,6 +87,10 @@ everyBelowTest D = ifEvery (λ r l. allBelow (D .roles) (λ t. D .transitive t �
 abbrev pub literalTest : Description → Literal → Bool
 literalTest D l = ltb (entryOf l) (D .entries)
 
+-- 26, of one record
+abbrev pub disjointTest : Description → Disjoint → Bool
+disjointTest D p = (ltb (p .one) (D .roles) && ltb (p .other) (D .roles)) && (not (eqb (p .one) (p .other)) && (simple D (p .one) && simple D (p .other)))
+
 -- each over the whole description; the forms are what bytes add to 3 and 4
 abbrev pub rolesTest : (ℕ → Bool) → Description → Bool
 rolesTest roleForm D = allBelow (D .roles) (λ r. roleForm r && roleTest D r)
@@ -100,11 +110,14 @@ everysTest D = allBelow (D .entries) (λ e. everyBelowTest D (D .entry e))
 abbrev pub queryTest : Description → Bool
 queryTest D = literalTest D (D .root) && allBelow (D .rules) (λ i. literalTest D (D .rule i))
 
--- the first of 3 to 8 that refuses
+abbrev pub disjointsTest : Description → Bool
+disjointsTest D = allBelow (D .disjoints) (λ i. disjointTest D (D .disjoint i))
+
+-- the first of 3 to 8, then 26, that refuses
 unfoldable pub descriptionTests : (ℕ → Bool) → (ℕ → Bool) → Description → Option ℕ
 descriptionTests roleForm entryForm D =
     unless (rolesTest roleForm D) 3 (unless (entriesTest entryForm D) 4
-    (unless (simplesTest D) 5 (unless (distinctsTest D) 6 (unless (everysTest D) 7 (unless (queryTest D) 8 none)))))
+    (unless (simplesTest D) 5 (unless (distinctsTest D) 6 (unless (everysTest D) 7 (unless (queryTest D) 8 (unless (disjointsTest D) 26 none))))))
 
 -- lifted: no bytes
 abbrev pub descriptionRefusal : Description → Option ℕ
@@ -119,7 +132,7 @@ entry↔ D e (both a b) = simp reading Iff·rfl
 entry↔ D e (every r l) = simp reading Iff·rfl
 entry↔ D e (atLeast r l n) = simp reading Iff·rfl
 
--- with a role and an entry, refused by none of 3 to 8 exactly if accepted and of the forms
+-- with a role and an entry, refused by none of 3 to 8 and 26 exactly if accepted and of the forms
 pub formed↔ : (roleForm entryForm : ℕ → Bool) (D : Description)
     → ((1 ≤ D .roles) × ((1 ≤ D .entries) × (descriptionTests roleForm entryForm D ≡ none)))
     ↔ (Accepted D × (((r : ℕ) → r < D .roles → So (roleForm r)) × ((e : ℕ) → e < D .entries → So (entryForm e))))
@@ -136,6 +149,7 @@ formed↔ roleForm entryForm D = simp (unless↔, below, kinds, narrow↔, entry
       everys-below = t .1 .1 .1 .1 .0;
       root-in = t .1 .1 .1 .1 .1 .0 .0;
       rules-in = t .1 .1 .1 .1 .1 .0 .1;
+      disjoints-ok = t .1 .1 .1 .1 .1 .1 .0;
     },
     (λ r l. t .0 r l .0, λ e l. t .1 .0 e l .0),
   ),
@@ -147,7 +161,7 @@ formed↔ roleForm entryForm D = simp (unless↔, below, kinds, narrow↔, entry
         λ r l. (f r l, A .parents-in r l),
         (
           λ e l. (g e l, A .fields e l),
-          (A .simples, (A .distinct, (A .everys-below, ((A .root-in, A .rules-in), refl)))),
+          (A .simples, (A .distinct, (A .everys-below, ((A .root-in, A .rules-in), (A .disjoints-ok, refl))))),
         ),
       ),
     ),

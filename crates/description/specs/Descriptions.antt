@@ -1,12 +1,13 @@
--- Descriptions as data (01, "The description"; FORMAT 2): roles, concept entries, and the query.
-use Prim.Native.Nat.{ℕ, zero, suc}
+-- Descriptions as data (01, "The description"; 02, job 5; FORMAT 2): roles, concept entries, the query, and roles that never share a filler.
+use Prim.Native.Nat.{ℕ, zero, suc, _<_}
 use mathlib.Core.Path.{_≡_, refl, sym, _∙_, ap, subst}
-use mathlib.Core.Logic.{_↔_}
-use mathlib.Core.Bool.{Bool, true, false, _&&_, false≢true}
+use mathlib.Core.Logic.{_↔_, Iff·rfl}
+use mathlib.Core.Bool.{Bool, true, false, not, _&&_, false≢true}
 use mathlib.Core.Option.{Option, none, some, Option·some-injective}
 use mathlib.Core.List.{List, [], _∷_}
 use lib.Dec.{eqb}
-use Rattle.logic.specs.Tests.{So, so-and, eqb-so, reading}
+use Rattle.logic.specs.Tests.{So, _⇒_, so-and, eqb-so, reading}
+use Rattle.logic.specs.Bounded.{allBelow, below}
 use Rattle.logic.specs.Sets.{has}
 use Rattle.description.specs.Literals.{Literal, code, literal, literal-code}
 
@@ -17,7 +18,12 @@ pub data Entry : Type 0 where
   every : (role : ℕ) (qualifier : Literal) → Entry
   atLeast : (role : ℕ) (qualifier : Literal) (number : ℕ) → Entry
 
--- only what is numbered below roles, entries and rules is part of a description
+-- two roles that have no pair of elements in common
+pub record Disjoint : Type 0 where
+  pub one : ℕ
+  pub other : ℕ
+
+-- only what is numbered below roles, entries, rules and disjoints is part of a description
 pub record Description : Type 0 where
   pub roles : ℕ
   pub transitive : ℕ → Bool
@@ -28,6 +34,22 @@ pub record Description : Type 0 where
   pub root : Literal
   pub rules : ℕ
   pub rule : ℕ → Literal
+  pub disjoints : ℕ
+  pub disjoint : ℕ → Disjoint
+  -- whether it has a part for these records, be it empty: evidence is then stored with a mark for cells that their roles bar
+  pub fourth : Bool
+
+-- a set of roles that one pair of elements may have: it does not hold both roles of a record
+abbrev pub Compatible : Description → (ℕ → Bool) → Type 0
+Compatible D m = (i : ℕ) → i < D .disjoints → So (m (D .disjoint i .one)) → So (m (D .disjoint i .other)) → ⊥
+
+-- the same as a test
+unfoldable pub compatible : Description → (ℕ → Bool) → Bool
+compatible D m = allBelow (D .disjoints) (λ i. m (D .disjoint i .one) ⇒ not (m (D .disjoint i .other)))
+
+pub compatible↔ : (D : Description) (m : ℕ → Bool) → So (compatible D m) ↔ Compatible D m
+unfolding compatible
+compatible↔ D m = simp below Iff·rfl
 
 abbrev pub included : Description → ℕ → ℕ → Bool
 included D r s = has (D .parents r) s

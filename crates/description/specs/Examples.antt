@@ -1,16 +1,17 @@
--- Worked examples: tests 3 to 8 of a description, each on both sides, their order, ancestors and simple roles.
+-- Worked examples: tests 3 to 8 and 26 of a description, each on both sides, their order, ancestors and simple roles.
 use Prim.Native.Nat.{ℕ, _+_, _^_}
 use mathlib.Core.Path.{_≡_, refl}
 use mathlib.Core.Bool.{Bool, true, false}
 use mathlib.Core.List.{List, [], _∷_, map}
 use mathlib.Core.Option.{Option, none, some}
+use lib.Dec.{ltb}
 use lib.ListN.{length, getD}
 use Rattle.logic.specs.Bounded.{allBelow, anyBelow}
 use Rattle.logic.specs.Closure.{closure}
 use Rattle.logic.specs.Lists.{tabulate}
 use Rattle.logic.specs.Sets.{has, narrow}
 use Rattle.description.specs.Literals.{Literal, pos, literal}
-use Rattle.description.specs.Descriptions.{Entry, top, name, both, every, atLeast, Description, sameEntry, ifEvery, ifLeast}
+use Rattle.description.specs.Descriptions.{Entry, top, name, both, every, atLeast, Disjoint, Description, sameEntry, ifEvery, ifLeast}
 use Rattle.description.specs.Roles.{ancestor, simple}
 use Rattle.description.specs.Acceptance.{entryTest, descriptionRefusal, descriptionTests}
 
@@ -26,8 +27,11 @@ under mask = record { transitive = false; parents = mask }
 abbrev pub transitiveUnder : ℕ → Role
 transitiveUnder mask = record { transitive = true; parents = mask }
 
-abbrev pub tableOf : List Role → List Entry → Literal → List Literal → Description
-tableOf roles entries root rules = record {
+abbrev pub disjointOf : ℕ → ℕ → Disjoint
+disjointOf one other = record { one = one; other = other }
+
+abbrev pub withDisjoint : List Disjoint → List Role → List Entry → Literal → List Literal → Description
+withDisjoint pairs roles entries root rules = record {
   roles = length roles;
   transitive = λ r. getD roles r (under 0) .transitive;
   parents = λ r. getD roles r (under 0) .parents;
@@ -36,7 +40,14 @@ tableOf roles entries root rules = record {
   root = root;
   rules = length rules;
   rule = λ i. getD rules i (pos 0);
+  disjoints = length pairs;
+  disjoint = λ i. getD pairs i (disjointOf 0 0);
+  fourth = ltb 0 (length pairs);
 }
+
+-- with none
+abbrev pub tableOf : List Role → List Entry → Literal → List Literal → Description
+tableOf = withDisjoint []
 
 -- the literal with that number
 abbrev pub lit : ℕ → Literal
@@ -65,6 +76,10 @@ ofRoles roles entries = trial roles entries 0 []
 -- role 0 is transitive and under role 1
 abbrev chained : List Entry → Option ℕ → Trial
 chained = ofRoles (transitiveUnder 2 ∷ under 0 ∷ [])
+
+-- roles with records of two that never share a filler
+abbrev ofDisjoint : List Disjoint → List Role → ℕ → Option ℕ → Trial
+ofDisjoint pairs roles root answer = record { given = withDisjoint pairs roles (top ∷ []) (lit root) []; answer = answer }
 
 trials : List Trial
 trials =
@@ -133,6 +148,18 @@ trials =
     ∷ chained (top ∷ every 1 (lit 0) ∷ name ∷ atLeast 0 (lit 0) 1 ∷ []) (some 5)
     ∷ chained (top ∷ every 1 (lit 0) ∷ name ∷ every 1 (lit 0) ∷ []) (some 6)
     ∷ trial (transitiveUnder 2 ∷ under 0 ∷ []) (top ∷ every 1 (lit 0) ∷ []) 4 [] (some 7)
+    -- 26: two roles of the table, not the same; one may be under the other, and a record may come again, or turned round
+    ∷ ofDisjoint (disjointOf 0 1 ∷ disjointOf 1 0 ∷ disjointOf 0 1 ∷ []) (under 0 ∷ under 0 ∷ []) 0 none
+    ∷ ofDisjoint (disjointOf 0 1 ∷ []) (under 2 ∷ under 0 ∷ []) 0 none
+    ∷ ofDisjoint (disjointOf 0 2 ∷ []) (under 0 ∷ under 0 ∷ []) 0 (some 26)
+    ∷ ofDisjoint (disjointOf 2 0 ∷ []) (under 0 ∷ under 0 ∷ []) 0 (some 26)
+    ∷ ofDisjoint (disjointOf 0 1 ∷ disjointOf 1 1 ∷ []) (under 0 ∷ under 0 ∷ []) 0 (some 26)
+    -- both simple: neither transitive nor above a transitive role
+    ∷ ofDisjoint (disjointOf 1 2 ∷ []) (transitiveUnder 0 ∷ under 0 ∷ under 0 ∷ []) 0 none
+    ∷ ofDisjoint (disjointOf 0 1 ∷ []) (transitiveUnder 0 ∷ under 0 ∷ under 0 ∷ []) 0 (some 26)
+    ∷ ofDisjoint (disjointOf 2 1 ∷ []) (transitiveUnder 2 ∷ under 0 ∷ under 0 ∷ []) 0 (some 26)
+    -- 8 before 26
+    ∷ ofDisjoint (disjointOf 1 1 ∷ []) (under 0 ∷ under 0 ∷ []) 2 (some 8)
     ∷ []
 
 trials-hold : map (λ t. descriptionRefusal (t .given)) trials ≡ map (λ t. t .answer) trials

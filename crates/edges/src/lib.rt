@@ -1,15 +1,19 @@
 // Rule 13: the edges behind a record's label.
 ghost use mathlib.Core.Path.{_≡_};
+ghost use mathlib.Core.Bool.{true};
 ghost use Prim.Native.Nat.{_*_, _/_, _<_, _≤_};
 ghost use Rattle.logic.specs.Bounded.{allBelow};
 ghost use Rattle.logic.specs.Sets.{has, narrow, within};
 ghost use Rattle.logic.specs.Sums.{only};
 ghost use Rattle.parts.specs.Numbers.{upTo};
-ghost use Rattle.edges.specs.EdgeSteps.{edgeCount, edgeStruct, raised, edgeCode, edgesCode};
+ghost use Rattle.roles.specs.Disjoint.{compatibleBy};
+ghost use Rattle.edges.specs.EdgeSteps.{edgeCount, edgeStruct, raised, edgeWith, edgesCode};
 use parts::byte;
 use parts::mask2;
 use parts::read2;
 use parts::up_to;
+use roles::disjoint::compatible;
+use roles::disjoint::no_records;
 use roles::fits16;
 use roles::has16;
 
@@ -61,7 +65,7 @@ fn above_if(above: u16, m: u16, r: u8) -> u16
 }
 
 // Whether the mask holds with each of its roles the ancestors.
-fn upward(a: &[u16; 32], m: u16) -> bool
+fn upward(a: &[u16; 49], m: u16) -> bool
     ensures { λ q. ⌜ q ≡ within (raised (now (a .entry)) m) m ⌝ }
 {
     let mut up: u16 = 0;
@@ -73,20 +77,21 @@ fn upward(a: &[u16; 32], m: u16) -> bool
     up & m == up
 }
 
-// Rule 13 of one edge, in a table of `n` roles and a graph of `size` records; `a` has the masks of the roles, their ancestors in front.
-fn edge_ok(e: Edge, a: &[u16; 32], n: u8, size: u8) -> bool
+// Rule 13 of one edge but for records of disjoint roles, in a table of `n` roles and a graph of `size` records; `a` has the masks of the
+// roles, their ancestors in front.
+fn edge_ok(e: Edge, a: &[u16; 49], n: u8, size: u8) -> bool
     requires { ⌜ n ≤ 16 ⌝ }
-    ensures { λ q. ⌜ q ≡ edgeCode (now (a .entry)) n size e ⌝ }
+    ensures { λ q. ⌜ q ≡ edgeWith (now (a .entry)) n size true e ⌝ }
 {
     let narrow = fits16(e.mask, n as usize);
     let up = upward(a, e.mask);
     ((e.target < size) & ((0 < e.mask) & (narrow & (up & (1 <= e.count))))) & (e.count <= 1000)
 }
 
-// Rule 13 of the first `k` edges.
-fn edges_hold(es: &[u8], k: u8, a: &[u16; 32], n: u8, size: u8) -> bool
+// The same of the first `k` edges.
+fn edges_hold(es: &[u8], k: u8, a: &[u16; 49], n: u8, size: u8) -> bool
     requires { ⌜ n ≤ 16 ⌝ }
-    ensures { λ q. ⌜ q ≡ allBelow k (λ j. edgeCode (now (a .entry)) n size (edgeStruct (now (es .entry)) j)) ⌝ }
+    ensures { λ q. ⌜ q ≡ allBelow k (λ j. edgeWith (now (a .entry)) n size true (edgeStruct (now (es .entry)) j)) ⌝ }
 {
     let mut j: u8 = 0;
     while j < k {
@@ -98,9 +103,30 @@ fn edges_hold(es: &[u8], k: u8, a: &[u16; 32], n: u8, size: u8) -> bool
     true
 }
 
+// Whether the first `k` edges hold no record of disjoint roles. Without records, one comparison a node says so.
+fn edges_compatible(es: &[u8], k: u8, a: &[u16; 49]) -> bool
+    ensures { λ q. ⌜ q ≡ allBelow k (λ j. compatibleBy (now (a .entry)) (edgeStruct (now (es .entry)) j .mask)) ⌝ }
+{
+    if no_records(a) {
+        return true;
+    }
+    let mut j: u8 = 0;
+    while j < k {
+        let e = edge_at(es, j);
+        if !compatible(a, e.mask) {
+            return false;
+        }
+        j += 1;
+    }
+    true
+}
+
 // Rule 13 of the edges `es`, in a table of `roles` roles.
-pub fn edges_ok(es: &[u8], a: &[u16; 32], roles: u8, size: u8) -> bool
+pub fn edges_ok(es: &[u8], a: &[u16; 49], roles: u8, size: u8) -> bool
     ensures { λ q. ⌜ q ≡ edgesCode (now (a .entry)) (upTo 16 roles) size (now (es .entry)) ⌝ }
 {
-    edges_hold(es, edge_count(es), a, up_to(16, roles as usize), size)
+    let k = edge_count(es);
+    let held = edges_hold(es, k, a, up_to(16, roles as usize), size);
+    let free = edges_compatible(es, k, a);
+    held & free
 }

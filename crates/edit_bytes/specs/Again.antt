@@ -3,7 +3,7 @@ use Prim.Native.Nat.{ℕ, zero, suc, _+_, _-_, _*_, _/_, _≤_, _<_}
 use mathlib.Core.Path.{_≡_, refl, sym, _∙_, ap, subst}
 use mathlib.Core.Logic.{_↔_}
 use mathlib.Core.List.{List, [], _∷_, _++_, map, flatten}
-use mathlib.Core.Bool.{true, false≢true}
+use mathlib.Core.Bool.{true, false, cond, false≢true}
 use mathlib.Core.Option.{Option, none, some}
 use native.Mathlib.Omega.{arith}
 use native.Mathlib.Nat.{zero-add}
@@ -13,20 +13,20 @@ use lib.Seq.{length-take-le, ext-getD}
 use Rattle.logic.specs.Tests.{So, so-and, leb-so}
 use Rattle.logic.specs.Lists.{tabulate, length-tabulate, at-tabulate}
 use Rattle.parts.specs.Numbers.{byteAt, num2}
-use Rattle.parts.specs.Pairs.{offsetAt, lengthAt, endAt, partAt, pair-inside}
+use Rattle.parts.specs.Pairs.{offsetAt, lengthAt, endAt, partAt, Fills, pair-inside}
 use Rattle.laying.specs.Places.{Stands, stands-part, stands-append, stands-more, stands-whole, before, before-even, before-all}
 use Rattle.laying.specs.Places.{stands-flatten, at-map, Small, small-in}
 use Rattle.laying.specs.Numbers.{two, two-bytes}
 use Rattle.description.specs.Descriptions.{Fields, fieldsOf, top}
 use Rattle.tables.specs.Tables.{fieldsAt}
 use Rattle.labels.specs.Labels.{mostEntries}
-use Rattle.intake.specs.Intake.{rolesPart, conceptsPart, queryPart, described, mostRoles, mostRules, bytesTest, AcceptedBytes}
+use Rattle.intake.specs.Intake.{four, rolesPart, conceptsPart, queryPart, described, mostRoles, mostRules, mostDisjoints, bytesTest, AcceptedBytes}
 use Rattle.intake.specs.Intake.{accepted-bytes↔, accepted-sizes}
 use Rattle.editing.specs.Editing.{RoleIn, loneRole, Draft, isSet, rootOf, Made}
 use Rattle.editing.specs.Kept.{Few}
 use Rattle.editing.specs.Reach.{made↔}
 use Rattle.edit_bytes.specs.Out.{roleBytes, entryBytes, rolesOut, conceptsOut, queryOut, pair, withPairs, outBytes, whole}
-use Rattle.edit_bytes.specs.OutLaws.{out-tests, out-accepted, roles-part, concepts-part, query-part, roles-long, concepts-long}
+use Rattle.edit_bytes.specs.OutLaws.{no-fourth, out-tests, out-accepted, roles-part, concepts-part, query-part, roles-long, concepts-long}
 use Rattle.edit_bytes.specs.OutLaws.{byte-of, mask-of, fields-of}
 use Rattle.edit_bytes.specs.OutSmall.{out-small}
 
@@ -65,7 +65,7 @@ again k write read dflt s n pos long w h = stands-whole (flatten ws)
     even : (i : ℕ) → i ≤ length ws → before ws i ≡ k * i
     even = before-even k ws [] (λ j g. ap length (at j (let z : j < n = omega (arith, many) in z)) ∙ w (read s j))
 
-module _ (d : List ℕ) (A : AcceptedBytes d) (small : Small d) where
+module _ (d : List ℕ) (A : AcceptedBytes d) (three : four d ≡ false) (small : Small d) where
   abbrev T : Draft
   T = draftIn d
 
@@ -78,8 +78,11 @@ module _ (d : List ℕ) (A : AcceptedBytes d) (small : Small d) where
   abbrev qs : List ℕ
   qs = queryPart d
 
+  fills : Fills d 0 3 12
+  fills = subst (λ b. Fills d 0 (cond b 4 3) (4 * cond b 4 3)) three (A .directory)
+
   inside : (i : ℕ) → i < 3 → endAt d 0 i ≤ length d
-  inside i h = pair-inside d 0 3 12 i (A .directory) h
+  inside i h = pair-inside d 0 3 12 i fills h
 
   part-there : (i : ℕ) → i < 3 → Stands d (offsetAt d 0 i) (partAt d 0 i)
   part-there i h = stands-part (lengthAt d 0 i) (inside i h)
@@ -100,11 +103,11 @@ module _ (d : List ℕ) (A : AcceptedBytes d) (small : Small d) where
   unfolding conceptsOut
   concepts-again = again 6 entryBytes fieldsAt (fieldsOf top) cs (length cs / 6) (omega arith) (omega (arith, A .concepts)) (λ x. refl)
       (λ i h. stands-append (byteAt cs (6 * i) ∷ byteAt cs (6 * i + 1) ∷ byteAt cs (6 * i + 2) ∷ byteAt cs (6 * i + 3) ∷ [])
-      (two (num2 cs (6 * i + 4))) (four i h) (two-bytes .again (part-small 1 (omega arith)) (omega (arith, A .concepts))))
+      (two (num2 cs (6 * i + 4))) (kind-to-second i h) (two-bytes .again (part-small 1 (omega arith)) (omega (arith, A .concepts))))
     where
-      four : (i : ℕ) → i < length cs / 6 → Stands cs (6 * i)
+      kind-to-second : (i : ℕ) → i < length cs / 6 → Stands cs (6 * i)
           (byteAt cs (6 * i) ∷ byteAt cs (6 * i + 1) ∷ byteAt cs (6 * i + 2) ∷ byteAt cs (6 * i + 3) ∷ [])
-      four i h = record { inside = omega (arith, A .concepts); same = at }
+      kind-to-second i h = record { inside = omega (arith, A .concepts); same = at }
         where
           at : (j : ℕ) → j < 4 → byteAt cs (6 * i + j)
               ≡ byteAt (byteAt cs (6 * i) ∷ byteAt cs (6 * i + 1) ∷ byteAt cs (6 * i + 2) ∷ byteAt cs (6 * i + 3) ∷ []) j
@@ -126,7 +129,7 @@ module _ (d : List ℕ) (A : AcceptedBytes d) (small : Small d) where
   -- the pairs and the parts stand one after another, and are the whole
   pair-again : (i : ℕ) → i < 3 → (at : ℕ) → offsetAt d 0 i ≡ at → Stands d (0 + 4 * i) (pair at (partAt d 0 i))
   pair-again i h at e = rw (← e, part-long i h) (stands-append (two (offsetAt d 0 i)) (two (lengthAt d 0 i))
-      (two-bytes .again small (omega (arith, A .directory .0))) (two-bytes .again small (omega (arith, A .directory .0))))
+      (two-bytes .again small (omega (arith, fills .0))) (two-bytes .again small (omega (arith, fills .0))))
 
   -- so what is read off it is written out as it was
   pub out-again : outBytes (draftIn d) ≡ d
@@ -145,16 +148,16 @@ module _ (d : List ℕ) (A : AcceptedBytes d) (small : Small d) where
       l2 = part-long 2 (omega arith)
 
       o0 : offsetAt d 0 0 ≡ 12
-      o0 = A .directory .1 .0 0 (omega arith)
+      o0 = fills .1 .0 0 (omega arith)
 
       o1 : offsetAt d 0 1 ≡ 12 + length rs
-      o1 = A .directory .1 .0 1 (omega arith) ∙ (omega (arith, o0, l0))
+      o1 = fills .1 .0 1 (omega arith) ∙ (omega (arith, o0, l0))
 
       o2 : offsetAt d 0 2 ≡ 12 + length rs + length cs
-      o2 = A .directory .1 .0 2 (omega arith) ∙ (omega (arith, o1, l1))
+      o2 = fills .1 .0 2 (omega arith) ∙ (omega (arith, o1, l1))
 
       long : length (withPairs rs cs qs) ≡ length d
-      long = omega (arith, length-append rs (cs ++ qs), length-append cs qs, o0, o1, o2, l0, l1, l2, A .directory .1 .1)
+      long = omega (arith, length-append rs (cs ++ qs), length-append cs qs, o0, o1, o2, l0, l1, l2, fills .1 .1)
 
       parts-there : Stands d 12 (rs ++ (cs ++ qs))
       parts-there = stands-append rs (cs ++ qs) (subst (λ k. Stands d k rs) o0 (part-there 0 (omega arith)))
@@ -168,7 +171,7 @@ module _ (d : List ℕ) (A : AcceptedBytes d) (small : Small d) where
 
   -- ---- and it is made
   sizes : (1 ≤ described d .roles) × (described d .roles ≤ mostRoles) × (1 ≤ described d .entries) × (described d .entries ≤ mostEntries)
-      × (described d .rules ≤ mostRules)
+      × (described d .rules ≤ mostRules) × (described d .disjoints ≤ mostDisjoints)
   sizes = accepted-sizes d A
 
   few : Few (draftIn d)
@@ -186,14 +189,18 @@ module _ (d : List ℕ) (A : AcceptedBytes d) (small : Small d) where
   made-in = made↔ (draftIn d) few .1 (sym (out-tests (draftIn d) few whole-in) ∙ ap bytesTest out-again ∙ accepted-bytes↔ d .1 A)
 
 -- every accepted description of three pairs is written out of a draft that is made
-pub put-in : (d : List ℕ) → AcceptedBytes d → Small d → (T : Draft) × Made T × So (whole T) × (outBytes T ≡ d)
-put-in d A small = (draftIn d, made-in d A small, whole-in d A small, out-again d A small)
+pub put-in : (d : List ℕ) → AcceptedBytes d → four d ≡ false → Small d → (T : Draft) × Made T × So (whole T) × (outBytes T ≡ d)
+put-in d A three small = (draftIn d, made-in d A three small, whole-in d A three small, out-again d A three small)
 
 -- so the accepted descriptions of three pairs, in bytes, are exactly what the editor writes
-pub out↔ : (d : List ℕ) → (AcceptedBytes d × Small d) ↔ ((T : Draft) × Made T × So (whole T) × (outBytes T ≡ d))
+pub out↔ : (d : List ℕ) → (AcceptedBytes d × (four d ≡ false) × Small d) ↔ ((T : Draft) × Made T × So (whole T) × (outBytes T ≡ d))
 out↔ d = (
-  λ h. put-in d (h .0) (h .1),
-  λ t. (accepted-bytes↔ d .0 (ap bytesTest (sym (t .3)) ∙ out-accepted (t .0) (t .1) (t .2)), subst Small (t .3) (out-small (t .0) (t .1))),
+  λ h. put-in d (h .0) (h .1) (h .2),
+  λ t. (
+    accepted-bytes↔ d .0 (ap bytesTest (sym (t .3)) ∙ out-accepted (t .0) (t .1) (t .2)),
+    subst (λ d. four d ≡ false) (t .3) (no-fourth (t .0)),
+    subst Small (t .3) (out-small (t .0) (t .1)),
+  ),
 )
 
 -- ---- and the draft that is read from what was written is the one that was put in

@@ -2,7 +2,7 @@
 use Prim.Native.Nat.{ℕ, zero, suc, _+_, _-_, _*_, _≤_, _<_}
 use mathlib.Core.Path.{_≡_, refl, sym, _∙_, ap, ap₂, fun-ext}
 use mathlib.Core.Logic.{_↔_}
-use mathlib.Core.Bool.{Bool, _&&_}
+use mathlib.Core.Bool.{Bool, true, false, _&&_}
 use mathlib.Core.List.{List, [], _∷_, _++_, map, flatten}
 use mathlib.Core.Option.{none}
 use native.Mathlib.Omega.{arith}
@@ -22,7 +22,7 @@ use Rattle.description.specs.Descriptions.{Description, Entry, Fields, fieldsOf
 use Rattle.description.specs.Acceptance.{descriptionTests, literalTest}
 use Rattle.tables.specs.Tables.{fieldsAt, describe}
 use Rattle.labels.specs.Labels.{mostEntries}
-use Rattle.intake.specs.Intake.{rolesPart, conceptsPart, queryPart, described, mostRoles, mostRules, sizesTest, recordsTest, partsTest}
+use Rattle.intake.specs.Intake.{four, rolesPart, conceptsPart, queryPart, described, three-pairs, mostRoles, mostRules, sizesTest, recordsTest, partsTest}
 use Rattle.intake.specs.Intake.{bytesTest}
 use Rattle.intake.specs.Intake as Bytes
 use Rattle.answers.specs.Answers.{wholly, answer, WRITTEN, told↔}
@@ -122,6 +122,10 @@ module _ (T : Draft) where
       at (suc (suc zero)) h = omega (arith, p2 .0, p2 .1, p3 .0)
       at (suc (suc (suc i))) h = absurd (omega arith)
 
+  -- its first offset is 12, so there is no fourth
+  pub no-fourth : four out ≡ false
+  no-fourth = ap (λ n. eqb n 16) (out-fills .1 .0 0 (omega arith))
+
   cut : (at k : ℕ) (s : List ℕ) → Stands out k (pair at s) → Stands out at s → take (num2 out (k + 2)) (drop (num2 out k) out) ≡ s
   cut at k s h g = let w = pair-back at k s h in rw (w .0, w .1) (part s g)
 
@@ -181,7 +185,7 @@ module _ (T : Draft) where
           (record { kind = k′; role = r′; first = a′; second = b′; number = n′ })
       same p q s t u = rw (p, q, s, t, u) refl
 
-  pub is-described : describe rs cs qs ≡ describes T
+  pub is-described : describe rs cs qs none ≡ describes T
   is-described = same (omega (arith, roles-long)) (fun-ext (λ r. ap (λ b. eqb b 1) (byte-of r))) (fun-ext mask-of)
       (omega (arith, concepts-long))
       (fun-ext (λ e. ap entryOfFields (fields-of e))) (omega arith) (fun-ext (λ i. ap (λ j. literal (byteAt qs j)) (add-one i)))
@@ -196,6 +200,9 @@ module _ (T : Draft) where
         root = literal (rootOf (T .root));
         rules = k;
         rule = g;
+        disjoints = 0;
+        disjoint = λ i. record { one = 0; other = 0 };
+        fourth = false;
       }
 
       same : {n n′ : ℕ} {t t′ : ℕ → Bool} {m m′ : ℕ → ℕ} {c c′ : ℕ} {f f′ : ℕ → Entry} {k k′ : ℕ} {g g′ : ℕ → Literal}
@@ -204,21 +211,22 @@ module _ (T : Draft) where
 
   -- so the description that is written is the one that was put in
   pub out-described : described (outBytes T) ≡ describes T
-  out-described = rw (roles-part, concepts-part, query-part) is-described
+  out-described = three-pairs out no-fourth .2 ∙ rw (roles-part, concepts-part, query-part) is-described
 
   -- ---- and 1 to 8 say of it what 3 to 8 say of the draft, once there is a role, entry 0 and a root
   pub out-tests : Few T → So (whole T) → bytesTest (outBytes T) ≡ broken T
-  unfolding bytesTest partsTest sizesTest descriptionTests
-  out-tests few w = rw (fills↔ out 0 3 12 .1 out-fills, roles-part, concepts-part, query-part) (rw sizes (rest ∙ last))
+  unfolding bytesTest partsTest sizesTest descriptionTests allBelow
+  out-tests few w = let three = three-pairs out no-fourth in
+      rw (three .0, three .1, fills↔ out 0 3 12 .1 out-fills, roles-part, concepts-part, query-part) (rw sizes (rest ∙ last))
     where
       there : (1 ≤ length (T .roles)) × ((1 ≤ length (T .entries)) × (So (isSet (T .root))))
       there = simp reading at w
 
-      sizes : So (recordsTest 3 mostRoles rs && (recordsTest 6 mostEntries cs && (leb 1 (length qs) && leb (length qs) (1 + mostRules))))
+      sizes : So (recordsTest 3 mostRoles rs && (recordsTest 6 mostEntries cs && ((leb 1 (length qs) && leb (length qs) (1 + mostRules)) && true)))
       sizes = let l = roles-long in let k = concepts-long in let t = there in
-          simp reading ((omega arith, (omega arith, omega arith)), ((omega arith, (omega arith, omega arith)), (omega arith, omega arith)))
+          simp reading ((omega arith, (omega arith, omega arith)), ((omega arith, (omega arith, omega arith)), ((omega arith, omega arith), refl)))
 
-      rest : descriptionTests (Bytes.roleForm rs) (Bytes.entryForm cs) (describe rs cs qs)
+      rest : descriptionTests (Bytes.roleForm rs) (Bytes.entryForm cs) (describe rs cs qs none)
           ≡ descriptionTests (roleForm T) (entryForm T) (describes T)
       rest = ap (descriptionTests (Bytes.roleForm rs) (Bytes.entryForm cs)) is-described
           ∙ ap (λ f. descriptionTests f (Bytes.entryForm cs) (describes T)) (fun-ext (λ r. ap (λ b. leb b 1) (byte-of r)))

@@ -4,6 +4,7 @@ use Prim.Native.Nat.{ℕ, _/_, _≤_, _<_}
 use mathlib.Core.Path.{_≡_, refl, _∙_, ap}
 use mathlib.Core.Bool.{Bool}
 use mathlib.Core.List.{List}
+use mathlib.Core.Option.{none}
 use native.Mathlib.Omega.{arith}
 use lib.ListN.{length}
 use Rattle.description.specs.Roles.{simple}
@@ -28,8 +29,8 @@ trueRecord T i = record {
 pub records-true : (T : Draft) → Made T → (t : List Role) → t ≡ roleTable (rolesOut T)
     → (i : ℕ) → i < length (T .roles) → roleAt t i ≡ trueRecord T i
 records-true T m t table i k = same (table-bytes rs t table i l ∙ byte-of T i) (table-parents rs t table i l ∙ mask-of T i)
-    (table-masks rs t table cs qs few i l ∙ ap (λ D. ancestorMask D i) (is-described T))
-    (table-simple rs t table cs qs few i l ∙ ap (λ D. simple D i) (is-described T))
+    (table-masks rs t table cs qs none few i l ∙ ap (λ D. ancestorMask D i) (is-described T))
+    (table-simple rs t table cs qs none few i l ∙ ap (λ D. simple D i) (is-described T))
   where
     rs : List ℕ
     rs = rolesOut T

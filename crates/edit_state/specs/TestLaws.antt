@@ -4,6 +4,7 @@ use Prim.Native.Nat.{ℕ, _/_, _≤_, _<_}
 use mathlib.Core.Path.{_≡_, refl, sym, _∙_, ap}
 use mathlib.Core.Bool.{not, _&&_}
 use mathlib.Core.List.{List}
+use mathlib.Core.Option.{none}
 use native.Mathlib.Omega.{arith}
 use lib.ListN.{length}
 use Rattle.logic.specs.Tests.{So}
@@ -44,8 +45,8 @@ module _ (U : Draft) (few : Few U) (ok : So (entriesTest (entryForm U) (describe
   few-entries = omega (arith, few, concepts-long U)
 
   fields-ok : (e : ℕ) → e < length cs / 6 → So (fieldsTest (length rs / 3) e (fieldsAt cs e))
-  fields-ok e h = entries-are rs cs qs e
-      ∙ ap (λ F. sameFields F (fieldsOf (entryOfFields F)) && entryTest (describe rs cs qs) e (entryOfFields F)) (fields-of U e)
+  fields-ok e h = entries-are rs cs qs none e
+      ∙ ap (λ F. sameFields F (fieldsOf (entryOfFields F)) && entryTest (describe rs cs qs none) e (entryOfFields F)) (fields-of U e)
       ∙ ap (λ E. entryForm U e && entryTest E e (describes U .entry e)) (is-described U)
       ∙ all-elim (length (U .entries)) _ ok e (omega (arith, concepts-long U))
 
@@ -55,10 +56,10 @@ module _ (U : Draft) (few : Few U) (ok : So (entriesTest (entryForm U) (describe
 
   -- 5 and 7 of all entries
   pub simples-held : simplesCode cs t ≡ simplesTest (describes U)
-  simples-held = simples-are rs cs qs t refl few-roles few-entries fields-ok ∙ ap simplesTest (is-described U)
+  simples-held = simples-are rs cs qs none t refl few-roles few-entries fields-ok ∙ ap simplesTest (is-described U)
 
   pub everys-held : everysCode cs t (upTo 16 (length (U .roles))) ≡ everysTest (describes U)
-  everys-held = ap (everysCode cs t) same-count ∙ everys-are rs cs qs t refl few-roles few-entries fields-ok
+  everys-held = ap (everysCode cs t) same-count ∙ everys-are rs cs qs none t refl few-roles few-entries fields-ok
       ∙ ap everysTest (is-described U)
 
   -- 5, 6 and 7 of one
@@ -67,13 +68,13 @@ module _ (U : Draft) (few : Few U) (ok : So (entriesTest (entryForm U) (describe
     inside = omega (arith, h, concepts-long U)
 
     pub simple-held : simpleAt cs t e ≡ simpleTest (describes U) (describes U .entry e)
-    simple-held = simple-at rs cs qs t refl few-roles few-entries fields-ok e inside
+    simple-held = simple-at rs cs qs none t refl few-roles few-entries fields-ok e inside
         ∙ ap (λ D. simpleTest D (D .entry e)) (is-described U)
 
     pub distinct-held : allBelow e (λ f. not (twinAt cs e f)) ≡ distinctTest (describes U) e (describes U .entry e)
-    distinct-held = distinct-at rs cs qs t refl few-roles few-entries fields-ok e inside
+    distinct-held = distinct-at rs cs qs none t refl few-roles few-entries fields-ok e inside
         ∙ ap (λ D. distinctTest D e (D .entry e)) (is-described U)
 
     pub every-held : everyAt cs t (upTo 16 (length (U .roles))) e ≡ everyBelowTest (describes U) (describes U .entry e)
-    every-held = ap (λ n. everyAt cs t n e) same-count ∙ every-at rs cs qs t refl few-roles few-entries fields-ok e inside
+    every-held = ap (λ n. everyAt cs t n e) same-count ∙ every-at rs cs qs none t refl few-roles few-entries fields-ok e inside
         ∙ ap (λ D. everyBelowTest D (D .entry e)) (is-described U)

@@ -53,7 +53,7 @@ abbrev pub rootOf : Option ℕ → ℕ
 rootOf none = 0
 rootOf (some l) = l
 
--- the description so far; where no root is set, literal 0 stands for it
+-- the description so far, of three parts; where no root is set, literal 0 stands for it
 abbrev pub describes : Draft → Description
 describes T = record {
   roles = length (T .roles);
@@ -64,6 +64,9 @@ describes T = record {
   root = literal (rootOf (T .root));
   rules = length (T .rules);
   rule = λ i. literal (getD (T .rules) i 0);
+  disjoints = 0;
+  disjoint = λ i. record { one = 0; other = 0 };
+  fourth = false;
 }
 
 -- ---- 3 to 8, as for the bytes of a description

@@ -28,6 +28,9 @@ including D r p = record {
   root = D .root;
   rules = D .rules;
   rule = D .rule;
+  disjoints = D .disjoints;
+  disjoint = D .disjoint;
+  fourth = D .fourth;
 }
 
 module _ (D : Description) (inside : ParentsIn D) (r p : ℕ) (hr : r < D .roles) (hp : p < D .roles) where

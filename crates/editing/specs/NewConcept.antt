@@ -46,6 +46,9 @@ module _ (T : Draft) (P : Passes T) where
       root = D .root;
       rules = D .rules;
       rule = D .rule;
+      disjoints = D .disjoints;
+      disjoint = D .disjoint;
+      fourth = D .fourth;
     }
 
     pub grows : describes W ≡ grown
@@ -61,6 +64,9 @@ module _ (T : Draft) (P : Passes T) where
           root = D .root;
           rules = D .rules;
           rule = D .rule;
+          disjoints = D .disjoints;
+          disjoint = D .disjoint;
+          fourth = D .fourth;
         }
 
     old-entry : (e : ℕ) → e < n → grown .entry e ≡ D .entry e

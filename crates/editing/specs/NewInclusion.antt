@@ -44,7 +44,19 @@ module _ (T : Draft) (P : Passes T) where
         ∙ ap (λ t. made (D .roles) t (describes U .parents)) (fun-ext same-byte) ∙ ap (made (D .roles) (D .transitive)) (fun-ext parents-at)
       where
         made : ℕ → (ℕ → Bool) → (ℕ → ℕ) → Description
-        made n t m = record { roles = n; transitive = t; parents = m; entries = D .entries; entry = D .entry; root = D .root; rules = D .rules; rule = D .rule }
+        made n t m = record {
+          roles = n;
+          transitive = t;
+          parents = m;
+          entries = D .entries;
+          entry = D .entry;
+          root = D .root;
+          rules = D .rules;
+          rule = D .rule;
+          disjoints = D .disjoints;
+          disjoint = D .disjoint;
+          fourth = D .fourth;
+        }
 
         same-byte : (x : ℕ) → eqb (roleIn U x .transitive) 1 ≡ eqb (roleIn T x .transitive) 1
         same-byte x = ap (λ R. eqb (R .transitive) 1) (role-at x)

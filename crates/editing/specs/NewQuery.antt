@@ -33,6 +33,9 @@ module _ (T : Draft) (P : Passes T) where
       root = root;
       rules = rules;
       rule = rule;
+      disjoints = D .disjoints;
+      disjoint = D .disjoint;
+      fourth = D .fourth;
     }
 
     simple-alike : simplesTest Q ≡ simplesTest D

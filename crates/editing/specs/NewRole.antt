@@ -52,6 +52,9 @@ module _ (T : Draft) (P : Passes T) where
       root = D .root;
       rules = D .rules;
       rule = D .rule;
+      disjoints = D .disjoints;
+      disjoint = D .disjoint;
+      fourth = D .fourth;
     }
 
     pub widens : describes R ≡ H
@@ -67,6 +70,9 @@ module _ (T : Draft) (P : Passes T) where
           root = D .root;
           rules = D .rules;
           rule = D .rule;
+          disjoints = D .disjoints;
+          disjoint = D .disjoint;
+          fourth = D .fourth;
         }
 
     pub old-role : (r : ℕ) → r < m → roleIn R r ≡ roleIn T r

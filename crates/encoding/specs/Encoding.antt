@@ -17,7 +17,7 @@ use Rattle.evidence.specs.declared.Layout.{Layout}
 use Rattle.evidence.specs.Evidence.{labelSize, mostRecords, mostEdges, HeadOk, recordCount, recordAt, nodeIn, graphIn, graph-size, NodeForm}
 use Rattle.list_form.specs.ListForm.{stepIn}
 use Rattle.list_form.specs.FormLaws.{form-fine}
-use Rattle.lists.specs.Lists.{stepFrom, recordIn, refutationIn, RecordForm}
+use Rattle.lists.specs.Lists.{stepFrom, stepBehind, recordIn, refutationIn, RecordForm}
 use Rattle.laying.specs.Places.{before-between, each-map, each-value, Small, small-append, small-at, small-drop}
 use Rattle.laying.specs.Numbers.{label, label-bytes, label-back, label-behind, label-again}
 use Rattle.encoding.specs.Bundles.{bundle, Fits, bundle-kind, bundle-head, bundle-small, each-record, records-back, recordsIn, part-small, records-again, bundle-again, bundle-fits}
@@ -95,7 +95,7 @@ encodeRefutation f C = bundle 2 (map (encodeRecord f) C)
 pub record RecordWidth (f : Layout) (R : Record) : Type 0 where
   pub label-fits : R .label < 2 ^ (8 * labelSize f)
   pub form-fits : recordForm storedRefutation (R .step) ≡ none
-  pub step-fits : StepWidth (R .step)
+  pub step-fits : StepWidth (f .marks) (R .step)
 
 -- a refutation within the limits, those of pairs included
 pub record RefutationStored (f : Layout) (C : Refutation) : Type 0 where
@@ -103,9 +103,10 @@ pub record RefutationStored (f : Layout) (C : Refutation) : Type 0 where
   pub pairs-fit : Fits (map (encodeRecord f) C)
 
 module _ (f : Layout) (R : Record) (w : RecordWidth f R) where
-  step-there : stepIn (drop (labelSize f) (encodeRecord f R)) ≡ some (R .step)
+  step-there : stepBehind f (encodeRecord f R) ≡ some (R .step)
   unfolding encodeRecord
-  step-there = ap stepIn (label-behind (f .wide) (R .label) (encodeStep (R .step))) ∙ step-back (R .step) (w .form-fits) (w .step-fits)
+  step-there = ap (stepIn (f .marks)) (label-behind (f .wide) (R .label) (encodeStep (R .step)))
+      ∙ step-back (f .marks) (R .step) (w .form-fits) (w .step-fits)
 
   pub record-back : recordIn f (encodeRecord f R) ≡ R
   unfolding encodeRecord
@@ -118,7 +119,8 @@ module _ (f : Layout) (R : Record) (w : RecordWidth f R) where
 
   pub record-small : Small (encodeRecord f R)
   unfolding encodeRecord
-  record-small = small-append (label (f .wide) (R .label)) (label-bytes (f .wide) .small (R .label) (w .label-fits)) (step-small (R .step) (w .form-fits) (w .step-fits))
+  record-small = small-append (label (f .wide) (R .label)) (label-bytes (f .wide) .small (R .label) (w .label-fits))
+      (step-small (f .marks) (R .step) (w .form-fits) (w .step-fits))
 
 module _ (f : Layout) (C : Refutation) (w : RefutationStored f C) where
   abbrev records : List (List ℕ)
@@ -140,8 +142,8 @@ module _ (f : Layout) (C : Refutation) (w : RefutationStored f C) where
 
 -- what bytes are read as
 module _ (f : Layout) {r : List ℕ} (b : Small r) (form : RecordForm f r) where
-  step-in : StepAgain (small-drop (labelSize f) b) (form .1 .0)
-  step-in = step-again (small-drop (labelSize f) b) (form .1 .0) (form .1 .1)
+  step-in : StepAgain (f .marks) (small-drop (labelSize f) b) (form .1 .0)
+  step-in = step-again (f .marks) (small-drop (labelSize f) b) (form .1 .0) (form .1 .1)
 
   record-again : encodeRecord f (recordIn f r) ≡ r
   unfolding encodeRecord
@@ -150,7 +152,7 @@ module _ (f : Layout) {r : List ℕ} (b : Small r) (form : RecordForm f r) where
   record-width : RecordWidth f (recordIn f r)
   record-width = rw (form .1 .1) (record {
     label-fits = label-bytes (f .wide) .fits 0 b;
-    form-fits = form-fine (drop (labelSize f) r) (form .1 .0) (form .1 .1);
+    form-fits = form-fine (f .marks) (drop (labelSize f) r) (form .1 .0) (form .1 .1);
     step-fits = step-in .width;
   })
 

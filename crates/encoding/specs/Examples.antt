@@ -1,7 +1,8 @@
--- Worked examples: P1, P2 and P3 of 01 and a variant of P6 with a split, byte by byte, and wide ones; they are stored, and so they are what their bytes are read as.
+-- Worked examples: P1, P2 and P3 of 01 and a variant of P6 with a split, byte by byte, wide ones, and one with barred cells; they are
+-- stored, and so they are what their bytes are read as.
 use Prim.Native.Nat.{ℕ, zero, suc, _+_, _^_, _<_}
 use mathlib.Core.Path.{_≡_, refl, sym, subst}
-use mathlib.Core.Bool.{true, false}
+use mathlib.Core.Bool.{true, false, false≢true}
 use mathlib.Core.Logic.{inl, inr}
 use mathlib.Core.List.{List, [], _∷_, map, flatten, List·Memᴰ·cases-cons}
 use native.Mathlib.Omega.{arith}
@@ -14,7 +15,7 @@ use Rattle.labels.specs.Labels.{labelBytes}
 use Rattle.graph.specs.Graphs.{Graph}
 use Rattle.evidence.specs.declared.Layout.{Layout}
 use Rattle.evidence.specs.Evidence.{graphIn}
-use Rattle.refutation.specs.Records.{unshown, cited, contradiction, conjunction, counting, Refutation}
+use Rattle.refutation.specs.Records.{unshown, cited, barred, contradiction, conjunction, counting, Refutation}
 use Rattle.refutation.specs.RecordTests.{whenCounting}
 use Rattle.list_form.specs.ListForm.{cellOf}
 use Rattle.lists.specs.Lists.{refutationIn}
@@ -31,12 +32,15 @@ abbrev set : List ℕ → ℕ
 set [] = 0
 set (l ∷ ls) = 2 ^ l + set ls
 
--- for a table that is not wide, and for one that is
+-- for a table that is not wide, for one that is, and for one that is not, with a mark for barred cells
 abbrev narrow : Layout
-narrow = record { wide = false }
+narrow = record { wide = false; marks = false }
 
 abbrev broad : Layout
-broad = record { wide = true }
+broad = record { wide = true; marks = false }
+
+abbrev marked : Layout
+marked = record { wide = false; marks = true }
 
 -- ---- graphs
 abbrev p1 : Graph
@@ -110,12 +114,44 @@ pub p6-bytes : encodeRefutation narrow p6 ≡
 unfolding flatten tabulate bundle encodeRecord label encodeStep encodeTree
 p6-bytes = refl
 
--- a cell that cites record 254 is read back; one that cites 255 would be read as open
-pub last-cite : cellOf (encodeCell (cited 254)) ≡ cited 254
-last-cite = refl
+-- rows on two roles that never share a filler and on a third above them: the cells of both roles are barred
+abbrev p5 : Refutation
+p5 = record { label = set (1 ∷ []); step = contradiction (neg 0) }
+    ∷ record {
+      label = set (2 ∷ 4 ∷ 7 ∷ []);
+      step = counting (record {
+        rows = pos 1 ∷ pos 2 ∷ neg 3 ∷ [];
+        cells = cited 0 ∷ cited 0 ∷ barred ∷ unshown ∷ unshown ∷ unshown ∷ barred ∷ [];
+        tree = leaf (1 ∷ 1 ∷ 1 ∷ []);
+      });
+    }
+    ∷ record { label = set (7 ∷ 8 ∷ []); step = conjunction 4 1 }
+    ∷ record { label = set (10 ∷ []); step = conjunction 5 2 }
+    ∷ []
 
-pub open-mark : cellOf (encodeCell (cited 255)) ≡ unshown
+pub p5-bytes : encodeRefutation marked p5 ≡
+    2 ∷ 4 ∷ 0 ∷ 18 ∷ 0 ∷ 10 ∷ 0 ∷ 28 ∷ 0 ∷ 24 ∷ 0 ∷ 52 ∷ 0 ∷ 11 ∷ 0 ∷ 63 ∷ 0 ∷ 11
+    ∷ 0 ∷ 0 ∷ 0 ∷ 0 ∷ 0 ∷ 0 ∷ 0 ∷ 2 ∷ 1 ∷ 1
+    -- three rows, seven cells, the leaf
+    ∷ 0 ∷ 0 ∷ 0 ∷ 0 ∷ 0 ∷ 0 ∷ 0 ∷ 148 ∷ 6 ∷ 3 ∷ 2 ∷ 4 ∷ 7 ∷ 0 ∷ 0 ∷ 254 ∷ 255 ∷ 255 ∷ 255 ∷ 254 ∷ 0 ∷ 1 ∷ 1 ∷ 1
+    ∷ 0 ∷ 0 ∷ 0 ∷ 0 ∷ 0 ∷ 0 ∷ 1 ∷ 128 ∷ 2 ∷ 4 ∷ 1
+    ∷ 0 ∷ 0 ∷ 0 ∷ 0 ∷ 0 ∷ 0 ∷ 4 ∷ 0 ∷ 2 ∷ 5 ∷ 2 ∷ []
+unfolding flatten tabulate bundle encodeRecord label encodeStep encodeTree
+p5-bytes = refl
+
+-- without a mark for barred cells one that cites record 254 is read back, and with it one that cites 253; the next would be read as a mark
+pub last-cite : (cellOf false (encodeCell (cited 254)) ≡ cited 254) × (cellOf true (encodeCell (cited 253)) ≡ cited 253)
+last-cite = (refl, refl)
+
+pub open-mark : cellOf false (encodeCell (cited 255)) ≡ unshown
 open-mark = refl
+
+pub barred-mark : cellOf true (encodeCell (cited 254)) ≡ barred
+barred-mark = refl
+
+-- a barred cell is stored where there is a mark for it, and only there
+pub barred-stored : CellWidth true barred × (CellWidth false barred → ⊥)
+barred-stored = (refl, false≢true)
 
 -- ---- stored
 -- what holds of each element of a list that is written out
@@ -170,7 +206,7 @@ p6-stored = record {
         form-fits = refl;
         step-fits = record {
           rows-fit = among (λ l. code l < 256) (neg 1 ∷ pos 2 ∷ []) (omega arith, (omega arith, tt));
-          cells-fit = among CellWidth (cited 0 ∷ cited 0 ∷ unshown ∷ []) (omega arith, (omega arith, (tt, tt)));
+          cells-fit = among (CellWidth false) (cited 0 ∷ cited 0 ∷ unshown ∷ []) (omega arith, (omega arith, (tt, tt)));
           tree-fits = (omega arith, omega arith, among Byte _ (omega arith, (omega arith, (omega arith, tt))), among Byte _ (omega arith, (omega arith, (omega arith, tt))));
         };
       },

@@ -60,12 +60,13 @@ head-refused s = go (headTest s) (eqb (byteAt s 0) 1)
     go false b = refl
 
 -- ---- records, and the graph
--- how evidence is stored for a table of n entries (02, job 2), and for a description
-abbrev pub layoutFor : ℕ → Layout
-layoutFor n = record { wide = wide n }
+-- how evidence is stored for a table of n entries (02, job 2), without or with a mark for cells that their roles bar (job 5), and for a
+-- description
+abbrev pub layoutFor : ℕ → Bool → Layout
+layoutFor n marks = record { wide = wide n; marks = marks }
 
 abbrev pub layoutOf : Description → Layout
-layoutOf D = layoutFor (D .entries)
+layoutOf D = layoutFor (D .entries) (D .fourth)
 
 -- the bytes of a label
 abbrev pub labelSize : Layout → ℕ
@@ -122,9 +123,10 @@ unfolding nodeFormTest
 node-form↔ f n = simp reading Iff·rfl
 
 -- a record of one width, with whole edges behind its label, is none of the other width
-pub other-width : (m : ℕ) → (nodeFormTest (record { wide = true }) (8 + 5 * m) ≡ false) × (nodeFormTest (record { wide = false }) (16 + 5 * m) ≡ false)
+pub other-width : (b : Bool) (m : ℕ)
+    → (nodeFormTest (record { wide = true; marks = b }) (8 + 5 * m) ≡ false) × (nodeFormTest (record { wide = false; marks = b }) (16 + 5 * m) ≡ false)
 unfolding labelBytes
-other-width m = (so-false _ (λ h. let k = node-form↔ _ _ .0 h in omega arith), so-false _ (λ h. let k = node-form↔ _ _ .0 h in omega arith))
+other-width b m = (so-false _ (λ h. let k = node-form↔ _ _ .0 h in omega arith), so-false _ (λ h. let k = node-form↔ _ _ .0 h in omega arith))
 
 pub label-read : (f : Layout) (s : List ℕ) (i N at : ℕ) → at ≡ offsetAt s 2 i → N ≡ labelIn (f .wide) s at → N ≡ labelOf f s i
 unfolding labelOf

@@ -20,9 +20,10 @@ const MOST_RECORDS: u8 = 64;
 
 pub const MOST_EDGES: usize = 32;
 
-// How the records of evidence for a description are stored: with wide labels or not.
+// How the records of evidence for a description are stored: with wide labels or not, and with a mark for cells that their roles bar or not.
 pub struct Layout {
     pub wide: bool,
+    pub marks: bool,
 }
 
 // What evidence is, with the number of its records.
@@ -56,12 +57,14 @@ pub fn read_head(s: &[u8]) -> Head
     }
 }
 
-// How evidence for a description with the concepts `cs` is stored.
-pub fn layout_of(cs: &[u8]) -> Layout
-    ensures { λ r. ⌜ r ≡ layoutFor (length (now (cs .entry)) / 6) ⌝ }
+// How evidence for a description with the concepts `cs` is stored, if it has a fourth part (`marks`) or not. A graph has no cells, so that
+// it reads the same with either.
+pub fn layout_of(cs: &[u8], marks: bool) -> Layout
+    ensures { λ r. ⌜ r ≡ layoutFor (length (now (cs .entry)) / 6) marks ⌝ }
 {
     Layout {
         wide: is_wide(cs.len() / 6),
+        marks: marks,
     }
 }
 

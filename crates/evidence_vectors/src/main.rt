@@ -103,18 +103,28 @@ fn main() {
     run_file(b"check_lists_worst", Kind::Check);
     run_file(b"check_wide", Kind::Check);
     run_file(b"check_wide_worst", Kind::Check);
+    run_file(b"check_disjoint", Kind::Check);
+    run_file(b"check_disjoint_trials", Kind::Check);
+    run_file(b"check_disjoint_worst", Kind::Check);
     run_file(b"claims", Kind::Claim);
     run_file(b"claims_trials", Kind::Claim);
     run_file(b"claims_worst", Kind::Claim);
     run_file(b"claims_wide", Kind::Claim);
+    run_file(b"claims_disjoint", Kind::Claim);
+    run_file(b"claims_disjoint_trials", Kind::Claim);
     run_file(b"write", Kind::Write);
     run_file(b"write_trials", Kind::Write);
     run_file(b"write_worst", Kind::Write);
     run_file(b"write_wide", Kind::Write);
     run_file(b"write_wide_worst", Kind::Write);
+    run_file(b"write_disjoint", Kind::Write);
+    run_file(b"write_disjoint_trials", Kind::Write);
     run_file(b"read", Kind::Read);
     run_file(b"read_trials", Kind::Read);
     run_file(b"read_worst", Kind::Read);
     run_file(b"read_wide", Kind::Read);
     run_file(b"read_wide_worst", Kind::Read);
+    run_file(b"read_disjoint", Kind::Read);
+    run_file(b"read_disjoint_trials", Kind::Read);
+    run_file(b"read_disjoint_worst", Kind::Read);
 }

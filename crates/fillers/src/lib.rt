@@ -119,7 +119,7 @@ fn sources_above(cs: &[u8], above: u16, l: u8) -> Label
 }
 
 // The sources of entry `e`: none if it is no "every" or its role is not transitive.
-fn sources_at(m: &[u16; 32], cs: &[u8], e: EntryNo) -> Label
+fn sources_at(m: &[u16; 49], cs: &[u8], e: EntryNo) -> Label
     ensures { λ q. ⌜ valueOf q ≡ sourcesOf (now (m .entry)) (now (cs .entry)) (fieldsAt (now (cs .entry)) (e .0)) ⌝ }
 {
     let g = fields_at(cs, e);
@@ -133,7 +133,7 @@ fn sources_at(m: &[u16; 32], cs: &[u8], e: EntryNo) -> Label
 
 // For each entry "every r l" with `r` transitive, the entries whose presence in a label makes the edges of role `r` carry it on; `m` has the masks
 // of the roles.
-pub fn sources(m: &[u16; 32], cs: &[u8]) -> [u64; MOST_ENTRIES as usize]
+pub fn sources(m: &[u16; 49], cs: &[u8]) -> [u64; MOST_ENTRIES as usize]
     ensures { λ q. ⌜ SourcesOf (now (m .entry)) (now (cs .entry)) q ⌝ }
 {
     let n = entry_count(cs);

@@ -12,9 +12,9 @@ use Rattle.logic.specs.Closure.{closure}
 use Rattle.logic.specs.Sets.{has, nonempty, narrow, setOf}
 use Rattle.logic.specs.Refusals.{Refusal, refuseFrom}
 use Rattle.description.specs.Literals.{Literal, pos, neg, members}
-use Rattle.description.specs.Descriptions.{Entry, top, name, both, every, atLeast, Description, sameEntry, ifBoth, ifEvery, ifLeast}
+use Rattle.description.specs.Descriptions.{Entry, top, name, both, every, atLeast, Description, compatible, sameEntry, ifBoth, ifEvery, ifLeast}
 use Rattle.description.specs.Roles.{ancestor}
-use Rattle.description.specs.Examples.{under, transitiveUnder, tableOf, bits}
+use Rattle.description.specs.Examples.{under, transitiveUnder, disjointOf, withDisjoint, tableOf, bits}
 use Rattle.graph.specs.Graphs.{Edge, Node, Graph, total, Keeps, GraphLimits}
 use Rattle.graph.specs.GraphTests.{anyGraph, storedGraph, labelTest, bothTest, edgeTest, everyTest, countTest}
 use Rattle.graph.specs.GraphTests.{nodeRefusal, graphRefusal}
@@ -45,6 +45,10 @@ few = plain (top ∷ name ∷ atLeast 0 (pos 1) 2 ∷ every 0 (pos 1) ∷ name �
 -- role 0 transitive, under role 1; literal 2 a name, 4 and 6 "every" of it on role 0 and on role 1
 abbrev chained : Description
 chained = tableOf (transitiveUnder 2 ∷ under 0 ∷ []) (top ∷ name ∷ every 0 (pos 1) ∷ every 1 (pos 1) ∷ []) (pos 0) []
+
+-- two roles that never share a filler
+abbrev divided : Description
+divided = withDisjoint (disjointOf 1 0 ∷ []) (under 0 ∷ under 0 ∷ []) (top ∷ []) (pos 0) []
 
 -- P3's graph with that count, and with that label at record 0
 abbrev pair : List ℕ → ℕ → Graph
@@ -100,6 +104,11 @@ rows =
     ∷ row anyGraph chained [] (loop (edge 0 2 1)) none
     ∷ row anyGraph chained [] (loop (edge 0 3 1)) none
     ∷ row anyGraph chained [] (loop (edge 0 1 1)) (refused 13 0)
+    -- 13: no edge has two roles that never share a filler; two edges to one record may
+    ∷ row anyGraph divided [] (loop (edge 0 1 1)) none
+    ∷ row anyGraph divided [] (loop (edge 0 2 1)) none
+    ∷ row anyGraph divided [] (loop (edge 0 3 1)) (refused 13 0)
+    ∷ row anyGraph divided [] (node (0 ∷ []) (edge 0 1 1 ∷ edge 0 2 1 ∷ []) ∷ []) none
     -- 13 before 14, 14 before 15; but an earlier record comes before a smaller number
     ∷ row anyGraph chained [] (node (0 ∷ 7 ∷ []) (edge 0 1 1 ∷ []) ∷ []) (refused 13 0)
     ∷ row anyGraph few [] (node (0 ∷ 4 ∷ 7 ∷ []) [] ∷ []) (refused 14 0)
@@ -143,7 +152,7 @@ dues [] = []
 dues (x ∷ xs) = x .due ∷ dues xs
 
 refusals : given rows ≡ dues rows
-unfolding rows given dues graphRefusal nodeRefusal refuseFrom labelTest bothTest edgeTest everyTest countTest total
+unfolding rows given dues graphRefusal nodeRefusal refuseFrom labelTest bothTest edgeTest compatible everyTest countTest total
     members has nonempty narrow allBelow each some? ifBoth ifEvery ifLeast sameEntry ancestor closure
 refusals = refl
 

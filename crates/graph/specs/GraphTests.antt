@@ -14,7 +14,7 @@ use Rattle.logic.specs.Sets.{nonempty, narrow}
 use Rattle.logic.specs.SetLaws.{nonempty↔, narrow↔}
 use Rattle.logic.specs.Refusals.{Refusal, unless, unless↔, refuseFrom, records↔}
 use Rattle.description.specs.Literals.{Literal, pos, neg, opposite, Label, members, in-table↔}
-use Rattle.description.specs.Descriptions.{every, Description, ifBoth, ifEvery, ifLeast, sameEntry, kinds}
+use Rattle.description.specs.Descriptions.{every, Description, compatible, compatible↔, ifBoth, ifEvery, ifLeast, sameEntry, kinds}
 use Rattle.description.specs.Roles.{ancestor}
 use Rattle.graph.specs.Graphs.{Edge, Graph, nodeAt, labelAt, edgesAt, ofRole, counted, wantedAt, GraphLimits, GraphFits}
 use Rattle.graph.specs.Graphs.{LabelOk, BothOk, EdgeOk, EveryOk, CountOk, NodeOk, Keeps}
@@ -42,7 +42,7 @@ edgeTest lim D size E = (ltb (E .target) size
     && (nonempty (E .mask)
     && (narrow (E .mask) (D .roles)
     && (allBelow (D .roles) (λ r. ofRole r E ⇒ allBelow (D .roles) (λ s. ancestor D r s ⇒ ofRole s E))
-    && leb 1 (E .count)))))
+    && (compatible D (λ r. ofRole r E) && leb 1 (E .count))))))
     && lim .count (E .count)
 
 abbrev pub passTest : Description → ℕ → Literal → Edge → Label → Bool
@@ -93,9 +93,9 @@ both↔ D L = simp (listed, kinds) Iff·rfl
 
 pub edge↔ : (lim : GraphLimits) (D : Description) (size : ℕ) (E : Edge) → So (edgeTest lim D size E) ↔ (EdgeOk D size E × So (lim .count (E .count)))
 unfolding edgeTest
-edge↔ lim D size E = simp (listed, nonempty↔, narrow↔) (
-  λ t. (record { target-in = t .0 .0; some-role = t .0 .1 .0; roles-in = t .0 .1 .1 .0; roles-up = t .0 .1 .1 .1 .0; some-copy = t .0 .1 .1 .1 .1 }, t .1),
-  λ o. ((o .0 .target-in, (o .0 .some-role, (o .0 .roles-in, (o .0 .roles-up, o .0 .some-copy)))), o .1),
+edge↔ lim D size E = simp (listed, nonempty↔, narrow↔, compatible↔) (
+  λ t. (record { target-in = t .0 .0; some-role = t .0 .1 .0; roles-in = t .0 .1 .1 .0; roles-up = t .0 .1 .1 .1 .0; roles-compatible = t .0 .1 .1 .1 .1 .0; some-copy = t .0 .1 .1 .1 .1 .1 }, t .1),
+  λ o. ((o .0 .target-in, (o .0 .some-role, (o .0 .roles-in, (o .0 .roles-up, (o .0 .roles-compatible, o .0 .some-copy))))), o .1),
 )
 
 pub every↔ : (D : Description) (lab : ℕ → Label) (L : Label) (es : List Edge) → So (everyTest D lab L es) ↔ EveryOk D lab L es

@@ -11,7 +11,7 @@ use Rattle.logic.specs.Lists.{_∈_}
 use Rattle.logic.specs.Sums.{only}
 use Rattle.logic.specs.Sets.{has}
 use Rattle.description.specs.Literals.{Literal, pos, neg, opposite, Label, members, InTable}
-use Rattle.description.specs.Descriptions.{both, every, atLeast, Description}
+use Rattle.description.specs.Descriptions.{both, every, atLeast, Description, Compatible}
 use Rattle.description.specs.Roles.{ancestor}
 
 -- bit r of the mask: an edge of role r
@@ -59,12 +59,14 @@ abbrev pub BothOk : Description → Label → Type 0
 BothOk D L = (e : ℕ) → e < D .entries → (a b : Literal) → D .entry e ≡ both a b
     → (So (L (pos e)) → So (L a) × So (L b)) × (So (L (neg e)) → So (L (opposite a)) ⊎ So (L (opposite b)))
 
--- 13: an edge leads to a node, along a set of roles of the table that is closed upwards and has a member, to at least one filler
+-- 13: an edge leads to a node, along a set of roles of the table that is closed upwards, has a member and holds no two roles that never share
+-- a filler, to at least one filler
 pub record EdgeOk (D : Description) (size : ℕ) (E : Edge) : Type 0 where
   pub target-in : E .target < size
   pub some-role : (r : ℕ) × So (ofRole r E)
   pub roles-in : (r : ℕ) → So (ofRole r E) → r < D .roles
   pub roles-up : (r : ℕ) → r < D .roles → So (ofRole r E) → (s : ℕ) → s < D .roles → So (ancestor D r s) → So (ofRole s E)
+  pub roles-compatible : Compatible D (λ r. ofRole r E)
   pub some-copy : 1 ≤ E .count
 
 -- what "every R l" (∀R.l) passes along an R edge: l itself, and for the transitive roles T ⊑* R on the edge the "every T l" that carries it on.

@@ -14,12 +14,12 @@ use Rattle.logic.specs.Lists.{_∈_}
 use Rattle.logic.specs.Sums.{countBelow, count-le, count-pos}
 use Rattle.logic.specs.Closure.{closure, closure-base, closure-ind, closure-trans}
 use Rattle.description.specs.Literals.{Literal, pos, neg, opposite, entryOf, Label, entryOf-opposite}
-use Rattle.description.specs.Descriptions.{Entry, top, name, both, every, atLeast, Description}
+use Rattle.description.specs.Descriptions.{Entry, top, name, both, every, atLeast, Description, Compatible}
 use Rattle.description.specs.Roles.{ancestor, simple, anc-refl, anc-in, anc-trans, parent-anc}
 use Rattle.description.specs.Acceptance.{Accepted, fields-at}
 use Rattle.interpretation.specs.Meaning.{Interpretation, meaning, truth, truth-eq, holds}
 use Rattle.interpretation.specs.Models.{Model, Satisfies, opposite-true, both-true, every-true, least-true}
-use Rattle.graph.specs.Graphs.{Edge, Graph, labelAt, edgesAt, ofRole, total, counted, Passes, NodeOk, wantedAt, Keeps}
+use Rattle.graph.specs.Graphs.{Edge, Graph, labelAt, edgesAt, ofRole, total, counted, EdgeOk, Passes, NodeOk, wantedAt, Keeps}
 use Rattle.graph.specs.Line.{copies, direct, pairs, lineWith, line}
 use Rattle.graph.specs.Copies.{owner, count-direct, total-at, copies-pos, room}
 
@@ -76,6 +76,13 @@ module _ (D : Description) (A : Accepted D) (W : List Literal) (G : Graph) (g : 
   simple-link : (s z w : ℕ) → So (simple D s) → So (I .role s z w) → So (link s z w)
   unfolding simple
   simple-link s z w h e = elim (role↔ s z w .0 e) [ inl p ↦ p | inr v ↦ absurd ((simp below at h) (v .0) (v .1) (v .2 .0, v .2 .1 .0)) ]
+
+  -- so two disjoint roles, which are simple, have no pair in common: the edge that a pair comes from would hold both
+  role-compatible : (z w : ℕ) → z < size → Compatible D (λ r. I .role r z w)
+  role-compatible z w hz i h p q = let o = A .disjoints-ok i h .1 .1 in
+      let v = link-edge (D .disjoint i .one) z w (λ E M. EdgeOk D (length G) E) (λ E m u. ok z hz .edges-ok E m) (simple-link (D .disjoint i .one) z w (o .0) p) in
+      v .2 .roles-compatible i h (sym (v .1 (D .disjoint i .one)) ∙ simple-link (D .disjoint i .one) z w (o .0) p)
+      (sym (v .1 (D .disjoint i .other)) ∙ simple-link (D .disjoint i .other) z w (o .1) q)
 
   count-link : (z r : ℕ) (l : Literal) → z < size → countBelow size (λ w. link r z w && lab w l) ≡ counted (labelAt G) (edgesAt G (z / K)) r l
   unfolding direct
@@ -207,6 +214,7 @@ module _ (D : Description) (A : Accepted D) (W : List Literal) (G : Graph) (g : 
     nonempty = some-element;
     inclusion = λ r hr s hs p x hx y hy q. role-above r s x y hr hx (parent-anc D r s p) q;
     transitivity = λ t ht c x hx y hy p z hz q. role-trans t x y z ht c hx hy p q;
+    disjointness = λ x hx y hy. role-compatible x y hx;
     rules = λ i hi x hx. true-with (D .rule i) x hx (ok x hx .label-ok .has-rules i hi);
   }
 

@@ -1,5 +1,5 @@
 -- Worked examples: bytes of a description and of evidence, and the answer; each test on both sides. (P1 to P10 stand in demands/Trials.)
-use Prim.Native.Nat.{ℕ, _+_, _/_, _%_}
+use Prim.Native.Nat.{ℕ, _+_, _*_, _/_, _%_}
 use mathlib.Core.Path.{_≡_, refl}
 use mathlib.Core.List.{List, [], _∷_, _++_, map}
 use mathlib.Core.Option.{Option, none, some}
@@ -11,7 +11,7 @@ use Rattle.logic.specs.Refusals.{Refusal, refuseFrom}
 use Rattle.logic.specs.Sets.{has, narrow, nonempty}
 use Rattle.parts.specs.Pairs.{fills, fillsFrom}
 use Rattle.description.specs.Literals.{literal, members}
-use Rattle.description.specs.Descriptions.{entryFrom, sameEntry, ifBoth, ifEvery, ifLeast}
+use Rattle.description.specs.Descriptions.{compatible, entryFrom, sameEntry, ifBoth, ifEvery, ifLeast}
 use Rattle.description.specs.Roles.{ancestor, simple}
 use Rattle.description.specs.Acceptance.{entryTest, descriptionTests}
 use Rattle.graph.specs.Graphs.{total}
@@ -29,10 +29,24 @@ record Trial : Type 0 where
 abbrev number : ℕ → List ℕ
 number n = n / 256 ∷ n % 256 ∷ []
 
--- three parts behind their pairs
+-- the pairs of parts that lie one behind the other from `at` on, and the parts behind them
+abbrev pairs : ℕ → List (List ℕ) → List ℕ
+pairs at [] = []
+pairs at (p ∷ ps) = number at ++ number (length p) ++ pairs (at + length p) ps
+
+abbrev laid : List (List ℕ) → List ℕ
+laid [] = []
+laid (p ∷ ps) = p ++ laid ps
+
+abbrev withPairs : List (List ℕ) → List ℕ
+withPairs ps = pairs (4 * length ps) ps ++ laid ps
+
+-- three parts, and four
 abbrev pub parts : List ℕ → List ℕ → List ℕ → List ℕ
-parts roles concepts query = number 12 ++ number (length roles) ++ number (12 + length roles) ++ number (length concepts)
-    ++ number (12 + length roles + length concepts) ++ number (length query) ++ roles ++ concepts ++ query
+parts roles concepts query = withPairs (roles ∷ concepts ∷ query ∷ [])
+
+abbrev pub fourParts : List ℕ → List ℕ → List ℕ → List ℕ → List ℕ
+fourParts roles concepts query records = withPairs (roles ∷ concepts ∷ query ∷ records ∷ [])
 
 abbrev pub entry : ℕ → ℕ → ℕ → ℕ → ℕ → List ℕ
 entry kind r first second n = kind ∷ r ∷ first ∷ second ∷ number n
@@ -76,6 +90,15 @@ every = parts (1 ∷ 0 ∷ 2 ∷ 0 ∷ 0 ∷ 0 ∷ []) (entry 0 0 0 0 0 ++ entry
 -- the same table; the root is the complement of the first "every"
 abbrev lacking : List ℕ
 lacking = parts (1 ∷ 0 ∷ 2 ∷ 0 ∷ 0 ∷ 0 ∷ []) (entry 0 0 0 0 0 ++ entry 1 0 0 0 0 ++ entry 3 1 2 0 0 ++ entry 3 0 2 0 0) (5 ∷ [])
+
+-- n roles without an inclusion, the entry top, the root top, and records of roles that never share a filler
+abbrev pub apart : ℕ → List ℕ → List ℕ
+apart n records = fourParts (replicate (3 * n) 0) (entry 0 0 0 0 0) (0 ∷ []) records
+
+-- byte by byte: two roles, the entry top, the root top, the record (0, 1)
+abbrev split : List ℕ
+split = 0 ∷ 16 ∷ 0 ∷ 6 ∷ 0 ∷ 22 ∷ 0 ∷ 6 ∷ 0 ∷ 28 ∷ 0 ∷ 1 ∷ 0 ∷ 29 ∷ 0 ∷ 2
+    ∷ 0 ∷ 0 ∷ 0 ∷ 0 ∷ 0 ∷ 0 ∷ 0 ∷ 0 ∷ 0 ∷ 0 ∷ 0 ∷ 0 ∷ 0 ∷ 0 ∷ 1 ∷ []
 
 abbrev trial : List ℕ → List ℕ → Option Refusal → Trial
 trial d s t = record { description = d; evidence = s; told = t }
@@ -123,9 +146,21 @@ trials =
     ∷ trial every (two (node 145 (edge 1 2 1)) (node 5 [])) (refused 14 0)
     ∷ trial lacking (two (node 33 (edge 1 2 1)) (node 9 [])) inhabited
     ∷ trial lacking (two (node 33 (edge 1 2 1)) (node 1 [])) (refused 14 0)
+    -- 13: roles 0 and 1 never share a filler: an edge with both, one with each, the second edge with both, one of record 1 with both
+    ∷ trial split (one (node 1 (edge 0 3 1))) (refused 13 0)
+    ∷ trial (apart 2 (0 ∷ 1 ∷ [])) (one (node 1 (edge 0 1 1 ++ edge 0 2 1))) inhabited
+    ∷ trial (apart 2 (0 ∷ 1 ∷ [])) (one (node 1 (edge 0 1 1 ++ edge 0 3 1))) (refused 13 0)
+    ∷ trial (apart 2 (0 ∷ 1 ∷ [])) (two (node 1 (edge 1 2 1)) (node 1 (edge 0 3 1))) (refused 13 1)
+    -- 13: the second record, and two roles that no record names together
+    ∷ trial (apart 3 (0 ∷ 1 ∷ 2 ∷ 1 ∷ [])) (one (node 1 (edge 0 6 1))) (refused 13 0)
+    ∷ trial (apart 3 (0 ∷ 1 ∷ 2 ∷ 1 ∷ [])) (one (node 1 (edge 0 5 1))) inhabited
+    -- without records, with four pairs and with three, an edge may have both
+    ∷ trial (apart 2 []) (one (node 1 (edge 0 3 1))) inhabited
+    ∷ trial (parts (replicate 6 0) (entry 0 0 0 0 0) (0 ∷ [])) (one (node 1 (edge 0 3 1))) inhabited
     ∷ []
 
 trials-hold : map (λ t. graphRefused (t .description) (t .evidence)) trials ≡ map (λ t. t .told) trials
-unfolding trials graphRefused graphTests graphRefusal refuseFrom headTest nodeFormTest labelBytes labelIn nodeRefusal labelTest bothTest edgeTest everyTest countTest total each some? tabulate members nonempty
-    bytesTest partsTest sizesTest fills fillsFrom descriptionTests allBelow anyBelow narrow entryTest literal entryFrom ifBoth ifLeast ifEvery simple ancestor closure has sameEntry
+unfolding trials graphRefused graphTests graphRefusal refuseFrom headTest nodeFormTest labelBytes labelIn nodeRefusal labelTest bothTest
+    edgeTest compatible everyTest countTest total each some? tabulate members nonempty bytesTest partsTest sizesTest fills fillsFrom
+    descriptionTests allBelow anyBelow narrow entryTest literal entryFrom ifBoth ifLeast ifEvery simple ancestor closure has sameEntry
 trials-hold = refl

@@ -53,7 +53,7 @@ kept↔ D W s = simp (refuse↔, unless↔, records↔, reading, head↔, node-f
   λ k. (((k .head, k .is-graph), refl), (λ x h. (k .formed x h, refl), graph↔ storedGraph D W (graphIn (layoutOf D) s) .1 (k .keeps, k .fits) .1)),
 )
 
--- none of 1 to 15 refuses exactly if the description is accepted, too
+-- none of 1 to 15 and 26 refuses exactly if the description is accepted, too
 pub not-refused↔ : (d s : List ℕ) → (graphRefused d s ≡ none) ↔ (AcceptedBytes d × GraphKept (described d) (wanted (described d)) s)
 unfolding graphRefused
 not-refused↔ d s = simp (refuse↔, accepted-bytes↔, kept↔) (λ t. t, λ t. t)

@@ -14,11 +14,10 @@ use Rattle.parts.specs.Numbers.{upTo, up-to-all}
 use Rattle.description.specs.Literals.{Literal, members, literalSet}
 use Rattle.description.specs.Descriptions.{Description, wanted}
 use Rattle.description.specs.Roles.{anc-in}
-use Rattle.description.specs.Acceptance.{Accepted}
-use Rattle.tables.specs.Tables.{describe}
+use Rattle.tables.specs.Tables.{recordsIn, describe}
 use Rattle.roles.specs.Ancestors.{roleCount}
-use Rattle.roles.specs.Records.{MasksOf, masks-plain}
-use Rattle.intake.specs.Intake.{partsTest, parts-accepted}
+use Rattle.roles.specs.Records.{MasksOf, masks-plain, masks-compatible}
+use Rattle.intake.specs.Intake.{AcceptedParts, partsTest, parts-accepted}
 use Rattle.labels.specs.Labels.{mostEntries}
 use Rattle.evidence.specs.declared.Layout.{Layout}
 use Rattle.evidence.specs.Evidence.{recordCount, layoutOf, mostEdges, HeadOk, headTest, head↔, recordAt, edgesIn, edgesPart, graphIn, graph-size, edges-size, NodeForm, nodeFormTest, node-form↔, labelOf}
@@ -55,10 +54,10 @@ unfolding literalSet
 need-is qs W zero = refl
 need-is qs W (suc x) = rw (ne-eqb (suc x) 0 (λ e. omega arith)) refl
 
-module _ (rs cs qs : List ℕ) (a : List ℕ) (masks : MasksOf rs a) (few : length rs / 3 ≤ 16) (table : length cs / 6 ≤ mostEntries) (acc : Accepted (describe rs cs qs))
+module _ (rs cs qs : List ℕ) (p : Option (List ℕ)) (a : List ℕ) (masks : MasksOf rs (recordsIn p) a) (acc : AcceptedParts rs cs qs p)
     (W : List Literal) (s : List ℕ) (head : HeadOk s) where
   abbrev D : Description
-  D = describe rs cs qs
+  D = describe rs cs qs p
 
   abbrev f : Layout
   f = layoutOf D
@@ -78,38 +77,55 @@ module _ (rs cs qs : List ℕ) (a : List ℕ) (masks : MasksOf rs a) (few : leng
     node-is x h = rw (label-there s head f formed x h, edges-there s head f formed x h, graph-size f s) (
         unless-then _ _ 11 _ _ label (λ _.
         unless-then _ _ 12 _ _ both (λ _.
-        unless-then _ _ 13 _ _ edges (λ pass. let p = sym edges ∙ pass in
-        unless-then _ _ 14 _ _ (everys-are rs cs qs (labelOf f s) table n (labelAt (graphIn f s)) labels (labelOf f s x) (edgesPart f s x) (edges-few s head f formed x h) p a masks few acc) (λ _.
-        unless-then _ _ 15 _ _ (counts-are rs cs qs (labelOf f s) table n (labelAt (graphIn f s)) labels (labelOf f s x) (edgesPart f s x) (edges-few s head f formed x h) p) (λ _. refl))))))
+        unless-then _ _ 13 _ _ edges (λ pass. let u = sym edges ∙ pass in
+        unless-then _ _ 14 _ _ (everys-are rs cs qs p (labelOf f s) (acc .1) n (labelAt (graphIn f s)) labels (labelOf f s x)
+        (edgesPart f s x) short u a masks (acc .0) (acc .2)) (λ _.
+        unless-then _ _ 15 _ _ (counts-are rs cs qs p (labelOf f s) (acc .1) n (labelAt (graphIn f s)) labels (labelOf f s x)
+        (edgesPart f s x) short u) (λ _. refl))))))
       where
-        label : labelCode (entryCount cs) (labelOf f s x) (needOf (requiredSet qs (literalSet W)) (requiredSet qs 0) x) ≡ labelTest D (wantedAt W x) (labelOf f s x)
-        label = ap₂ (λ k K. labelCode k (labelOf f s x) K) (up-to-all mostEntries (length cs / 6) table) (need-is qs W x)
-            ∙ label-is rs cs qs table (acc .rules-in) (wantedAt W x) (labelOf f s x)
+        short : length (edgesPart f s x) / 5 ≤ mostEdges
+        short = edges-few s head f formed x h
+
+        label : labelCode (entryCount cs) (labelOf f s x) (needOf (requiredSet qs (literalSet W)) (requiredSet qs 0) x)
+            ≡ labelTest D (wantedAt W x) (labelOf f s x)
+        label = ap₂ (λ k K. labelCode k (labelOf f s x) K) (up-to-all mostEntries (length cs / 6) (acc .1)) (need-is qs W x)
+            ∙ label-is rs cs qs p (acc .1) (acc .2 .rules-in) (wantedAt W x) (labelOf f s x)
 
         both : allBelow (entryCount cs) (bothAt cs (labelOf f s x)) ≡ bothTest D (members (labelOf f s x))
-        both = ap (λ k. allBelow k (bothAt cs (labelOf f s x))) (up-to-all mostEntries (length cs / 6) table) ∙ both-is rs cs qs (labelOf f s x)
+        both = ap (λ k. allBelow k (bothAt cs (labelOf f s x))) (up-to-all mostEntries (length cs / 6) (acc .1))
+            ∙ both-is rs cs qs p (labelOf f s x)
 
         edges : edgesCode a (upTo 16 (roleCount rs)) n (edgesPart f s x) ≡ each (edgesIn (edgesPart f s x)) (edgeTest storedGraph D n)
-        edges = ap (λ k. edgesCode a k n (edgesPart f s x)) (ap (upTo 16) (up-to-all 16 (length rs / 3) few) ∙ up-to-all 16 (length rs / 3) few)
-            ∙ edges-are rs cs qs a (masks-plain rs a masks) few (λ r q. anc-in D (acc .parents-in) r q) n (edgesPart f s x) (edges-few s head f formed x h)
+        edges = let few = up-to-all 16 (length rs / 3) (acc .0) in ap (λ k. edgesCode a k n (edgesPart f s x)) (ap (upTo 16) few ∙ few)
+            ∙ edges-are rs cs qs p a (masks-plain rs (recordsIn p) a masks) (acc .0)
+            (masks-compatible rs cs qs p a masks (acc .0) (acc .3) (acc .2))
+            (λ r q. anc-in D (acc .2 .parents-in) r q) n (edgesPart f s x) short
 
     records-are : refuseFrom (recordCode a (roleCount rs) cs qs (literalSet W) f s n) n 0 none ≡ graphRefusal storedGraph D W (graphIn f s)
     records-are = records-cong (recordCode a (roleCount rs) cs qs (literalSet W) f s n) (nodeAtTest D W s) n 0 none (λ x _ h. node-is x (omega arith)) ∙ sym (rules-on D W s formed)
 
+  -- a graph is read the same with and without the mark of a cell
+  unmarked : recordsCode a (roleCount rs) cs qs (literalSet W) s n
+      ≡ refuseFrom (formOf f s) n 0 (refuseFrom (recordCode a (roleCount rs) cs qs (literalSet W) f s n) n 0 none)
+  unfolding recordsCode nodeFormTest labelOf edgesPart
+  unmarked = refl
+
   forms-are : recordsCode a (roleCount rs) cs qs (literalSet W) s n ≡ refuseFrom (formAt f s) n 0 (graphRefusal storedGraph D W (graphIn f s))
-  unfolding recordsCode
-  forms-are = records-cong (formOf f s) (formAt f s) n 0 _ (λ x _ h. form-is x (omega arith))
+  forms-are = unmarked ∙ records-cong (formOf f s) (formAt f s) n 0 _ (λ x _ h. form-is x (omega arith))
       ∙ records-later (formAt f s) n 0 _ _ (λ pass. records-are (λ x h. node-form↔ f _ .0 (unless↔ _ 10 none .0 (pass x (omega arith) (omega arith)) .0)))
 
 -- 9 to 15, for accepted parts
-pub graph-is : (rs cs qs : List ℕ) (a : List ℕ) (W : List Literal) (s : List ℕ) → MasksOf rs a → partsTest rs cs qs ≡ none
-    → graphCode a (roleCount rs) cs qs (literalSet W) s ≡ graphTests (describe rs cs qs) W s
+pub graph-is : (rs cs qs : List ℕ) (p : Option (List ℕ)) (a : List ℕ) (W : List Literal) (s : List ℕ) → MasksOf rs (recordsIn p) a
+    → partsTest rs cs qs p ≡ none → graphCode a (roleCount rs) cs qs (literalSet W) s ≡ graphTests (describe rs cs qs p) W s
 unfolding graphCode graphTests
-graph-is rs cs qs a W s masks e = let k = parts-accepted rs cs qs e in
-    refuse-then 0 (unless (graphHead s) 9 none) _ _ (λ h. forms-are rs cs qs a masks (k .0) (k .1) (k .2) W s (head↔ s .0 (and-l (headTest s) _ (unless↔ (graphHead s) 9 none .0 h .0))))
+graph-is rs cs qs p a W s masks e = refuse-then 0 (unless (graphHead s) 9 none) _ _ (λ h.
+    forms-are rs cs qs p a masks (parts-accepted rs cs qs p e) W s
+    (head↔ s .0 (and-l (headTest s) _ (unless↔ (graphHead s) 9 none .0 h .0))))
 
 -- the same where the root is wanted
-pub sample-is : (rs cs qs : List ℕ) (a : List ℕ) (s : List ℕ) → MasksOf rs a → partsTest rs cs qs ≡ none
-    → graphCode a (roleCount rs) cs qs (rootSet qs) s ≡ graphTests (describe rs cs qs) (wanted (describe rs cs qs)) s
-sample-is rs cs qs a s masks e = let k = parts-accepted rs cs qs e in
-    ap (λ M. graphCode a (roleCount rs) cs qs M s) (root-is rs cs qs (k .1) (k .2 .root-in)) ∙ graph-is rs cs qs a (wanted (describe rs cs qs)) s masks e
+pub sample-is : (rs cs qs : List ℕ) (p : Option (List ℕ)) (a : List ℕ) (s : List ℕ) → MasksOf rs (recordsIn p) a
+    → partsTest rs cs qs p ≡ none
+    → graphCode a (roleCount rs) cs qs (rootSet qs) s ≡ graphTests (describe rs cs qs p) (wanted (describe rs cs qs p)) s
+sample-is rs cs qs p a s masks e = let k = parts-accepted rs cs qs p e in
+    ap (λ M. graphCode a (roleCount rs) cs qs M s) (root-is rs cs qs p (k .1) (k .2 .root-in))
+    ∙ graph-is rs cs qs p a (wanted (describe rs cs qs p)) s masks e

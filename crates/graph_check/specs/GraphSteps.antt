@@ -60,9 +60,9 @@ recordFor a m cs first later f s n i = recordNeeds a m cs (needOf first later i)
 abbrev pub recordCode : List ℕ → ℕ → List ℕ → List ℕ → ℕ → Layout → List ℕ → ℕ → ℕ → Option ℕ
 recordCode a m cs qs M f s n i = recordFor a m cs (requiredSet qs M) (requiredSet qs 0) f s n i
 
--- 10 to 15, of evidence stored as for the part cs
+-- 10 to 15, of evidence stored as for the part cs; a graph has no cells, so that it is read without their mark
 abbrev pub layoutIn : List ℕ → Layout
-layoutIn cs = layoutFor (length cs / 6)
+layoutIn cs = layoutFor (length cs / 6) false
 
 unfoldable pub recordsCode : List ℕ → ℕ → List ℕ → List ℕ → ℕ → List ℕ → ℕ → Option Refusal
 recordsCode a m cs qs M s n = refuseFrom (formOf (layoutIn cs) s) n 0 (refuseFrom (recordCode a m cs qs M (layoutIn cs) s n) n 0 none)

@@ -58,7 +58,7 @@ fn need_of(first: Label, later: Label, i: u8) -> Label
 // Rules 11 to 15 of record `i`, which is to have `need`, whose label is `x` and whose edges are `es`, in a graph of `n` records, with the
 // masks of so many roles and the table of sources.
 fn test_node(
-    m: &[u16; 32],
+    m: &[u16; 49],
     roles: u8,
     cs: &[u8],
     src: &[u64; MOST_ENTRIES as usize],
@@ -86,7 +86,7 @@ fn test_node(
 
 // The same, with the record read.
 fn test_record(
-    m: &[u16; 32],
+    m: &[u16; 49],
     roles: u8,
     cs: &[u8],
     src: &[u64; MOST_ENTRIES as usize],
@@ -115,7 +115,7 @@ fn test_record(
 
 // Rules 11 to 15 of the `n` records; here and below, `m` has the masks of so many roles, and `want` is wanted of record 0.
 fn test_records(
-    m: &[u16; 32],
+    m: &[u16; 49],
     roles: u8,
     cs: &[u8],
     qs: &[u8],
@@ -141,10 +141,10 @@ fn test_records(
 }
 
 // Tests 10 to 15 of the `n` records.
-fn test_all(m: &[u16; 32], roles: u8, cs: &[u8], qs: &[u8], want: Label, s: &[u8], n: u8) -> Tested
+fn test_all(m: &[u16; 49], roles: u8, cs: &[u8], qs: &[u8], want: Label, s: &[u8], n: u8) -> Tested
     ensures { λ r. ⌜ refusalOf r ≡ recordsCode (now (m .entry)) roles (now (cs .entry)) (now (qs .entry)) (valueOf want) (now (s .entry)) n ⌝ }
 {
-    let f = layout_of(cs);
+    let f = layout_of(cs, false);
     let tested = test_forms(s, n, f);
     let Tested::Fine = tested else {
         return tested;
@@ -153,7 +153,7 @@ fn test_all(m: &[u16; 32], roles: u8, cs: &[u8], qs: &[u8], want: Label, s: &[u8
 }
 
 // Tests 9 to 15 of the graph `s`, whose record 0 is to have `want`.
-pub fn test_graph(m: &[u16; 32], roles: u8, cs: &[u8], qs: &[u8], want: Label, s: &[u8]) -> Tested
+pub fn test_graph(m: &[u16; 49], roles: u8, cs: &[u8], qs: &[u8], want: Label, s: &[u8]) -> Tested
     ensures { λ r. ⌜ refusalOf r ≡ graphCode (now (m .entry)) roles (now (cs .entry)) (now (qs .entry)) (valueOf want) (now (s .entry)) ⌝ }
 {
     let head = read_head(s);
@@ -165,7 +165,7 @@ pub fn test_graph(m: &[u16; 32], roles: u8, cs: &[u8], qs: &[u8], want: Label, s
 }
 
 // The same for a plain question, which wants the root.
-pub fn test_sample(m: &[u16; 32], roles: u8, cs: &[u8], qs: &[u8], s: &[u8]) -> Tested
+pub fn test_sample(m: &[u16; 49], roles: u8, cs: &[u8], qs: &[u8], s: &[u8]) -> Tested
     ensures { λ r. ⌜ refusalOf r ≡ graphCode (now (m .entry)) roles (now (cs .entry)) (now (qs .entry)) (rootSet (now (qs .entry))) (now (s .entry)) ⌝ }
 {
     test_graph(m, roles, cs, qs, root_set(qs), s)

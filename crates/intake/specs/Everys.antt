@@ -4,6 +4,7 @@ use Prim.Native.Nat.{ℕ, zero, suc, _+_, _*_, _/_, _%_, _^_, _≤_, _<_}
 use mathlib.Core.Path.{_≡_, refl, sym, _∙_, ap, ap₂}
 use mathlib.Core.Bool.{Bool, true, false, _&&_, _||_, false≢true}
 use mathlib.Core.List.{List}
+use mathlib.Core.Option.{Option}
 use mathlib.Core.Logic.{_⊎_, inl, inr}
 use native.Mathlib.Omega.{arith}
 use native.Mathlib.Nat.{mod-eq-of-lt}
@@ -76,22 +77,22 @@ two-tests : (a b c : Bool) → ((a && b) ⇒ c) ≡ (a ⇒ (b ⇒ c))
 two-tests true b c = refl
 two-tests false b c = refl
 
-pub every-there-is : (rs cs qs : List ℕ) (t : List Role) → t ≡ roleTable rs → length rs / 3 ≤ 16 → length cs / 6 ≤ mostEntries
+pub every-there-is : (rs cs qs : List ℕ) (p : Option (List ℕ)) (t : List Role) → t ≡ roleTable rs → length rs / 3 ≤ 16 → length cs / 6 ≤ mostEntries
     → (r : ℕ) (l : Literal) → r < 16 → code l < 128
     → allThere cs (belowIn t (upTo 16 (roleCount rs)) r) (code l)
-    ≡ allBelow (length rs / 3) (λ i. describe rs cs qs .transitive i ⇒ (ancestor (describe rs cs qs) i r
-    ⇒ anyBelow (length cs / 6) (λ f. sameEntry (every i l) (describe rs cs qs .entry f))))
-every-there-is rs cs qs t tab few small r l hr hl =
+    ≡ allBelow (length rs / 3) (λ i. describe rs cs qs p .transitive i ⇒ (ancestor (describe rs cs qs p) i r
+    ⇒ anyBelow (length cs / 6) (λ f. sameEntry (every i l) (describe rs cs qs p .entry f))))
+every-there-is rs cs qs p t tab few small r l hr hl =
     rw (mod-eq-of-lt hl, up-to-all 16 n few, up-to-all 16 n few, up-to-all mostEntries m small)
     (within-below n _ _ few ∙ all-cong n _ _ (λ i h. let k : i < 16 = omega arith in
     two-tests (eqb (roleAt t i .transitive) 1) (has (roleAt t i .ancestors) r) (someEvery cs m (code l) i)
     ∙ ap (λ b. eqb b 1 ⇒ (has (roleAt t i .ancestors) r ⇒ someEvery cs m (code l) i)) (table-bytes rs t tab i k)
     ∙ ap (λ b. D .transitive i ⇒ (b ⇒ someEvery cs m (code l) i))
-    (ap (λ x. has x r) (table-masks rs t tab cs qs few i k) ∙ has-setOf 16 (ancestor D i) r hr)
+    (ap (λ x. has x r) (table-masks rs t tab cs qs p few i k) ∙ has-setOf 16 (ancestor D i) r hr)
     ∙ ap (λ q. D .transitive i ⇒ (ancestor D i r ⇒ anyBelow m (λ f. sameEntry (every i q) (D .entry f)))) (literal-code l)))
   where
     D : Description
-    D = describe rs cs qs
+    D = describe rs cs qs p
 
     n : ℕ
     n = length rs / 3

@@ -31,6 +31,14 @@ parts roles concepts query = trial (
     ++ number (12 + length roles + length concepts) ++ number (length query) ++ roles ++ concepts ++ query
     )
 
+-- four parts
+abbrev fourParts : List ℕ → List ℕ → List ℕ → List ℕ → Option ℕ → Trial
+fourParts roles concepts query disjoint = trial (
+    number 16 ++ number (length roles) ++ number (16 + length roles) ++ number (length concepts)
+    ++ number (16 + length roles + length concepts) ++ number (length query)
+    ++ number (16 + length roles + length concepts + length query) ++ number (length disjoint) ++ roles ++ concepts ++ query ++ disjoint
+    )
+
 -- a role, and an entry by its fields
 abbrev role : ℕ → ℕ → List ℕ
 role transitive parents = transitive ∷ number parents
@@ -55,6 +63,10 @@ entries concepts = parts (role 0 0) concepts (0 ∷ [])
 
 abbrev chained : List ℕ → Option ℕ → Trial
 chained concepts = parts (role 1 2 ++ role 0 0) concepts (0 ∷ [])
+
+-- roles with records of two that never share a filler; the root is literal 0
+abbrev disjoint : List ℕ → List ℕ → Option ℕ → Trial
+disjoint roles records = fourParts roles top (0 ∷ []) records
 
 trials : List Trial
 trials =
@@ -118,6 +130,46 @@ trials =
     ∷ parts (role 0 0) top (0 ∷ 0 ∷ 2 ∷ []) (some 8)
     ∷ []
 
-trials-hold : map (λ t. bytesTest (t .given)) trials ≡ map (λ t. t .answer) trials
-unfolding trials times bytesTest partsTest sizesTest fills fillsFrom descriptionTests allBelow anyBelow narrow entryTest literal entryFrom ifLeast ifEvery simple ancestor closure has sameEntry
-trials-hold = refl
+-- four pairs (02, job 5)
+fourths : List Trial
+fourths =
+    -- byte by byte: two roles, top, the root top, and that the roles never share a filler
+    trial (0 ∷ 16 ∷ 0 ∷ 6 ∷ 0 ∷ 22 ∷ 0 ∷ 6 ∷ 0 ∷ 28 ∷ 0 ∷ 1 ∷ 0 ∷ 29 ∷ 0 ∷ 2
+    ∷ 0 ∷ 0 ∷ 0 ∷ 0 ∷ 0 ∷ 0 ∷ 0 ∷ 0 ∷ 0 ∷ 0 ∷ 0 ∷ 0 ∷ 0 ∷ 0 ∷ 1 ∷ []) none
+    -- 1: a first offset of 16 means four pairs, so 12 or 15 bytes are too few, and three parts behind a gap are off
+    ∷ trial (0 ∷ 16 ∷ 0 ∷ 0 ∷ 0 ∷ 16 ∷ 0 ∷ 0 ∷ 0 ∷ 16 ∷ 0 ∷ 0 ∷ []) (some 1)
+    ∷ trial (0 ∷ 16 ∷ 0 ∷ 0 ∷ 0 ∷ 16 ∷ 0 ∷ 0 ∷ 0 ∷ 16 ∷ 0 ∷ 0 ∷ 0 ∷ 16 ∷ 0 ∷ []) (some 1)
+    ∷ trial (0 ∷ 16 ∷ 0 ∷ 3 ∷ 0 ∷ 19 ∷ 0 ∷ 6 ∷ 0 ∷ 25 ∷ 0 ∷ 1 ∷ 0 ∷ 0 ∷ 0 ∷ 0 ∷ 0 ∷ 0 ∷ 0 ∷ 0 ∷ 0 ∷ 0 ∷ 0 ∷ 0 ∷ 0 ∷ 0 ∷ []) (some 1)
+    -- 1: any other first offset means three
+    ∷ trial (0 ∷ 12 ∷ 0 ∷ 3 ∷ 0 ∷ 15 ∷ 0 ∷ 6 ∷ 0 ∷ 21 ∷ 0 ∷ 1 ∷ 0 ∷ 22 ∷ 0 ∷ 0 ∷ 0 ∷ 0 ∷ 0 ∷ 0 ∷ 0 ∷ 0 ∷ 0 ∷ 0 ∷ 0 ∷ 0 ∷ []) (some 1)
+    -- 2: four parts of no byte; no record, 16 and 17 of them, part of one; it comes before 3
+    ∷ fourParts [] [] [] [] (some 2)
+    ∷ disjoint (role 0 0) [] none
+    ∷ disjoint (role 0 0 ++ role 0 0) (times 16 (0 ∷ 1 ∷ [])) none
+    ∷ disjoint (role 0 0 ++ role 0 0) (times 17 (0 ∷ 1 ∷ [])) (some 2)
+    ∷ disjoint (role 0 0 ++ role 0 0) (0 ∷ 1 ∷ 0 ∷ []) (some 2)
+    ∷ disjoint (role 2 0) (0 ∷ []) (some 2)
+    -- 26: a role past the table, also one whose byte is 16 more than that of a role of the table, and in a later record
+    ∷ disjoint (role 0 0 ++ role 0 0) (0 ∷ 2 ∷ []) (some 26)
+    ∷ disjoint (role 0 0 ++ role 0 0) (2 ∷ 0 ∷ []) (some 26)
+    ∷ disjoint (role 0 0 ++ role 0 0) (0 ∷ 17 ∷ []) (some 26)
+    ∷ disjoint (role 0 0 ++ role 0 0) (0 ∷ 255 ∷ []) (some 26)
+    ∷ disjoint (role 0 0 ++ role 0 0) (0 ∷ 1 ∷ 0 ∷ 2 ∷ []) (some 26)
+    -- 26: the same role twice
+    ∷ disjoint (role 0 0 ++ role 0 0) (1 ∷ 1 ∷ []) (some 26)
+    -- 26: a role that is not simple, transitive or above a transitive one; a role below one is
+    ∷ disjoint (role 1 0 ++ role 0 0) (0 ∷ 1 ∷ []) (some 26)
+    ∷ disjoint (role 1 2 ++ role 0 0 ++ role 0 0) (2 ∷ 1 ∷ []) (some 26)
+    ∷ disjoint (role 0 2 ++ role 1 0 ++ role 0 0) (0 ∷ 2 ∷ []) none
+    -- one role may be below the other; a record may come again, or turned round
+    ∷ disjoint (role 0 2 ++ role 0 0) (0 ∷ 1 ∷ 1 ∷ 0 ∷ 0 ∷ 1 ∷ []) none
+    -- 8 before 26
+    ∷ fourParts (role 0 0 ++ role 0 0) top (2 ∷ []) (1 ∷ 1 ∷ []) (some 8)
+    ∷ []
+
+abbrev Agree : List Trial → Type 0
+Agree ts = map (λ t. bytesTest (t .given)) ts ≡ map (λ t. t .answer) ts
+
+trials-hold : Agree trials × Agree fourths
+unfolding trials fourths times bytesTest partsTest sizesTest fills fillsFrom descriptionTests allBelow anyBelow narrow entryTest literal entryFrom ifLeast ifEvery simple ancestor closure has sameEntry
+trials-hold = (refl, refl)

@@ -5,7 +5,6 @@ ghost use Prim.Native.Nat.{ℕ, _<_, _≤_};
 ghost use lib.Dec.{eqb, ltb};
 ghost use lib.ListN.{getD};
 ghost use Rattle.logic.specs.Bounded.{allBelow, anyBelow};
-ghost use Rattle.logic.specs.Sets.{within};
 ghost use Rattle.parts.specs.Numbers.{upTo};
 ghost use Rattle.words.specs.Words.{putIn};
 ghost use Rattle.tables.specs.Tables.{entryCount};
@@ -13,6 +12,7 @@ ghost use Rattle.roles.specs.Records.{roleAt};
 ghost use Rattle.intake.specs.Everys.{belowIs, belowIn, LowerOf, everyPut, everysIn, everyBy, everyAt};
 use parts::up_to;
 use roles::Role;
+use roles::disjoint::within16;
 use roles::has16;
 use tables::EntryNo;
 use tables::Fields;
@@ -74,13 +74,6 @@ fn everys_of(cs: &[u8]) -> [u16; 128]
         e += 1;
     }
     out
-}
-
-// Whether the mask `x` lies within `y`.
-fn within16(x: u16, y: u16) -> bool
-    ensures { λ q. ⌜ q ≡ within x y ⌝ }
-{
-    x & y == x
 }
 
 // For each role, the transitive roles that are included in it, of the first `n` records.

@@ -1,4 +1,4 @@
-// Tests 1 to 8 of a description, and the masks that evidence asks of its role records.
+// Tests 1 to 8 and 26 of a description, and the masks that evidence asks of its role records and of its fourth part.
 pub mod everys;
 
 ghost use mathlib.Core.Path.{_≡_};
@@ -11,12 +11,13 @@ ghost use Rattle.logic.specs.Sets.{narrow};
 ghost use Rattle.parts.specs.Numbers.{byteAt, num2, upTo};
 ghost use Rattle.description.specs.Descriptions.{sameFields};
 ghost use Rattle.tables.specs.Concepts.{fieldsIn};
-ghost use Rattle.tables.specs.Tables.{entryCount, fieldsAt, fieldsTest};
+ghost use Rattle.tables.specs.Tables.{entryCount, fieldsAt, fieldsTest, recordsIn};
 ghost use Rattle.labels.specs.Labels.{mostEntries};
 ghost use Rattle.roles.specs.Records.{roleTable};
 ghost use Rattle.answers.specs.Answers.{refusalOf, wholly};
-ghost use Rattle.intake.specs.Intake.{directoryTest, rolesPart, conceptsPart, queryPart, sizesTest, bytesTest};
-ghost use Rattle.intake.specs.Steps.{laterTest, stepsTest, roleKept, simpleAt, twinAt};
+ghost use Rattle.intake.specs.Intake.{four, pairCount, directoryTest, rolesPart, conceptsPart, queryPart, disjointPart};
+ghost use Rattle.intake.specs.Intake.{sizesTest, bytesTest};
+ghost use Rattle.intake.specs.Steps.{laterTest, stepsTest, roleKept, simpleAt, twinAt, disjointsCode};
 ghost use Rattle.intake.specs.Opening.{Opens};
 use answers::Tested;
 use everys::everys_ok;
@@ -25,7 +26,9 @@ use parts::byte;
 use parts::mask2;
 use parts::pairs_fill;
 use parts::part;
+use parts::read2;
 use roles::Role;
+use roles::disjoint::disjoint_count;
 use roles::fits16;
 use roles::role_count;
 use roles::role_masks;
@@ -37,11 +40,26 @@ use tables::entry_count;
 use tables::entry_ok;
 use tables::fields_at;
 
+// Whether the description has a fourth pair: the first offset is 16.
+pub fn has_four(d: &[u8]) -> bool
+    ensures { λ r. ⌜ r ≡ four (now (d .entry)) ⌝ }
+{
+    read2(d, 0) == 16
+}
+
+// The number of pairs.
+fn pair_count(d: &[u8]) -> u8
+    ensures { λ r. ⌜ (r ≡ pairCount (now (d .entry))) × (r ≤ 4) ⌝ }
+{
+    if has_four(d) { 4 } else { 3 }
+}
+
 // Test 1.
 fn directory_ok(d: &[u8]) -> bool
     ensures { λ r. ⌜ r ≡ directoryTest (now (d .entry)) ⌝ }
 {
-    pairs_fill(d, 0, 3, 12)
+    let n = pair_count(d);
+    pairs_fill(d, 0, n, 4 * (n as u16))
 }
 
 // A part of `len` bytes: whole records of `size` bytes, at least one, within `most` bytes.
@@ -53,12 +71,14 @@ fn records_ok(len: usize, size: usize, most: usize) -> bool
 }
 
 // Test 2.
-fn sizes_ok(rs: &[u8], cs: &[u8], qs: &[u8]) -> bool
-    ensures { λ r. ⌜ r ≡ sizesTest (now (rs .entry)) (now (cs .entry)) (now (qs .entry)) ⌝ }
+fn sizes_ok(rs: &[u8], cs: &[u8], qs: &[u8], ps: &[u8]) -> bool
+    ensures { λ r. ⌜ r ≡ sizesTest (now (rs .entry)) (now (cs .entry)) (now (qs .entry)) (now (ps .entry)) ⌝ }
 {
     let asked = qs.len();
+    let held = ps.len();
     records_ok(rs.len(), 3, 48)
-        & (records_ok(cs.len(), 6, 6 * (MOST_ENTRIES as usize)) & ((1 <= asked) & (asked <= 17)))
+        & (records_ok(cs.len(), 6, 6 * (MOST_ENTRIES as usize))
+            & (((1 <= asked) & (asked <= 17)) & ((held % 2 == 0) & (held <= 32))))
 }
 
 // Test 3 of one role, in a table of `n` roles.
@@ -206,10 +226,36 @@ fn query_ok(qs: &[u8], limit: usize) -> bool
     true
 }
 
-// Tests 5 to 8, with the first `n` role records.
-fn test_later(cs: &[u8], qs: &[u8], t: [Role; 16], n: u8) -> Tested
-    requires { ⌜ length (now cs) / 6 ≤ mostEntries ⌝ }
-    ensures { λ r. ⌜ refusalOf r ≡ wholly (laterTest (now (cs .entry)) (now (qs .entry)) t (upTo 16 n)) ⌝ }
+// Test 26 of a record of the fourth part that names the roles `r` and `s`, in a table of `n` roles; `x` and `y` are their role records.
+fn disjoint_ok(r: u8, s: u8, n: u8, x: Role, y: Role) -> bool
+    ensures { λ q. ⌜ q ≡ ((ltb r n && ltb s n) && (not (eqb r s) && (x .simple && y .simple))) ⌝ }
+{
+    ((r < n) & (s < n)) & (!(r == s) & (x.simple & y.simple))
+}
+
+// Test 26, with the first `n` role records.
+fn disjoints_ok(ps: &[u8], t: [Role; 16], n: u8) -> bool
+    ensures { λ r. ⌜ r ≡ disjointsCode (now (ps .entry)) t n ⌝ }
+{
+    let count = disjoint_count(ps);
+    let mut i: u8 = 0;
+    while i < count {
+        let one = byte(ps, 2 * (i as usize));
+        let other = byte(ps, 2 * (i as usize) + 1);
+        let x = t[(one % 16) as usize];
+        let y = t[(other % 16) as usize];
+        if !disjoint_ok(one, other, n, x, y) {
+            return false;
+        }
+        i += 1;
+    }
+    true
+}
+
+// Tests 5 to 8 and 26, with the first `n` role records.
+fn test_later(cs: &[u8], qs: &[u8], ps: &[u8], t: [Role; 16], n: u8) -> Tested
+    requires { ⌜ (length (now cs) / 6 ≤ mostEntries) × (n ≤ 16) ⌝ }
+    ensures { λ r. ⌜ refusalOf r ≡ wholly (laterTest (now (cs .entry)) (now (qs .entry)) (now (ps .entry)) t (upTo 16 n)) ⌝ }
 {
     if !simples_ok(cs, t) {
         return Tested::Refused(5, 0);
@@ -223,14 +269,17 @@ fn test_later(cs: &[u8], qs: &[u8], t: [Role; 16], n: u8) -> Tested
     if !query_ok(qs, 2 * (cs.len() / 6)) {
         return Tested::Refused(8, 0);
     }
+    if !disjoints_ok(ps, t, n) {
+        return Tested::Refused(26, 0);
+    }
     Tested::Fine
 }
 
-// Tests 2 to 8 of the three parts, with the records of the roles.
-fn test_parts(rs: &[u8], cs: &[u8], qs: &[u8], t: [Role; 16]) -> Tested
-    ensures { λ r. ⌜ refusalOf r ≡ wholly (stepsTest (now (rs .entry)) (now (cs .entry)) (now (qs .entry)) t) ⌝ }
+// Tests 2 to 8 and 26 of the parts, with the records of the roles.
+fn test_parts(rs: &[u8], cs: &[u8], qs: &[u8], ps: &[u8], t: [Role; 16]) -> Tested
+    ensures { λ r. ⌜ refusalOf r ≡ wholly (stepsTest (now (rs .entry)) (now (cs .entry)) (now (qs .entry)) (now (ps .entry)) t) ⌝ }
 {
-    if !sizes_ok(rs, cs, qs) {
+    if !sizes_ok(rs, cs, qs, ps) {
         return Tested::Refused(2, 0);
     }
     if !roles_ok(rs) {
@@ -239,24 +288,30 @@ fn test_parts(rs: &[u8], cs: &[u8], qs: &[u8], t: [Role; 16]) -> Tested
     if !entries_ok(cs, rs.len() / 3) {
         return Tested::Refused(4, 0);
     }
-    test_later(cs, qs, t, role_count(rs))
+    test_later(cs, qs, ps, t, role_count(rs))
 }
 
-// Tests 1 to 8, with the same records.
+// Tests 1 to 8 and 26, with the same records.
 fn test_bytes(d: &[u8], t: [Role; 16]) -> Tested
     ensures { λ r. ⌜ (t ≡ roleTable (rolesPart (now (d .entry))) → refusalOf r ≡ wholly (bytesTest (now (d .entry)))) ⌝ }
 {
     if !directory_ok(d) {
         return Tested::Refused(1, 0);
     }
-    test_parts(roles_part(d), concepts_part(d), query_part(d), t)
+    test_parts(
+        roles_part(d),
+        concepts_part(d),
+        query_part(d),
+        disjoint_part(d),
+        t,
+    )
 }
 
-// A description that has been opened: what tests 1 to 8 say of it, what evidence asks of the records of its roles, and how many roles it
+// A description that has been opened: what tests 1 to 8 and 26 say of it, what evidence asks of the records of its roles, and how many roles it
 // has. The records themselves stay here: they would be copied for each call of the checker.
 pub struct Opening {
     pub tested: Tested,
-    pub masks: [u16; 32],
+    pub masks: [u16; 49],
     pub count: u8,
 }
 
@@ -266,7 +321,7 @@ pub fn open_description(d: &[u8]) -> Opening
 {
     let rs = roles_part(d);
     let t = role_table(rs);
-    let m = role_masks(t);
+    let m = role_masks(t, disjoint_part(d));
     Opening {
         tested: test_bytes(d, t),
         masks: m,
@@ -274,7 +329,7 @@ pub fn open_description(d: &[u8]) -> Opening
     }
 }
 
-// The parts of a description: roles, concepts and question.
+// The parts of a description: roles, concepts, question, and roles that never share a filler.
 pub fn roles_part(d: &[u8]) -> &[u8]
     ensures { λ r. ⌜ now r ≡ rolesPart (now (d .entry)) ⌝ }
 {
@@ -293,7 +348,13 @@ pub fn query_part(d: &[u8]) -> &[u8]
     part(d, 0, 2)
 }
 
-// Tests 1 to 8 of a description.
+pub fn disjoint_part(d: &[u8]) -> &[u8]
+    ensures { λ r. ⌜ now r ≡ recordsIn (disjointPart (now (d .entry))) ⌝ }
+{
+    if has_four(d) { part(d, 0, 3) } else { &d[..0] }
+}
+
+// Tests 1 to 8 and 26 of a description.
 pub fn test_description(d: &[u8]) -> Tested
     ensures { λ r. ⌜ refusalOf r ≡ wholly (bytesTest (now (d .entry))) ⌝ }
 {

@@ -11,13 +11,13 @@ use Rattle.logic.specs.Lists.{each, tabulate}
 use Rattle.logic.specs.Sets.{has, narrow}
 use Rattle.logic.specs.Sums.{sumBelow}
 use Rattle.description.specs.Literals.{Literal, literal}
-use Rattle.description.specs.Descriptions.{Entry, top, name, both, every, atLeast, Description, sameEntry, ifEvery, ifLeast}
+use Rattle.description.specs.Descriptions.{Entry, top, name, both, every, atLeast, Disjoint, Description, compatible, sameEntry, ifEvery, ifLeast}
 use Rattle.description.specs.Roles.{ancestor, simple}
 use Rattle.description.specs.Acceptance.{entryTest, descriptionRefusal, descriptionTests}
-use Rattle.description.specs.Examples.{Role, under, transitiveUnder, tableOf, lit}
+use Rattle.description.specs.Examples.{Role, under, transitiveUnder, disjointOf, withDisjoint, tableOf, lit}
 use Rattle.interpretation.specs.Meaning.{Interpretation, meaning, truthWith, truth, holds}
 use Rattle.interpretation.specs.Models.{Model, Satisfies}
-use Rattle.interpretation.specs.Reading.{includes, composes, follows, satisfies, reads, reads↔}
+use Rattle.interpretation.specs.Reading.{includes, composes, separates, follows, satisfies, reads, reads↔}
 
 -- an interpretation from masks: for each entry the elements that have the name, for each role and element the fillers
 abbrev lineOf : ℕ → List ℕ → List (List ℕ) → Interpretation
@@ -89,6 +89,15 @@ ofLine rules wanted answer = record {
 abbrev ofPairs : List Role → ℕ → List (List ℕ) → Bool → Trial
 ofPairs roles size pairs answer = record { given = tableOf roles (top ∷ []) (lit 0) []; read = lineOf size [] pairs; wanted = []; answer = answer }
 
+-- the same for three roles, of which some never share a filler
+abbrev ofDisjoint : List Disjoint → ℕ → List (List ℕ) → Bool → Trial
+ofDisjoint pairs size roles answer = record {
+  given = withDisjoint pairs (under 0 ∷ under 0 ∷ under 0 ∷ []) (top ∷ []) (lit 0) [];
+  read = lineOf size [] roles;
+  wanted = [];
+  answer = answer;
+}
+
 trials : List Trial
 trials =
     -- a model that has the root at one element, not at all
@@ -118,6 +127,13 @@ trials =
     -- 0 1 and 1 0 ask for 0 0 and 1 1
     ∷ ofPairs twoRoles 2 ([] ∷ (2 ∷ 1 ∷ []) ∷ []) false
     ∷ ofPairs twoRoles 2 ([] ∷ (3 ∷ 3 ∷ []) ∷ []) true
+    -- roles 0 and 1 never share a filler: 0 1 of one and 0 0 of the other; 0 1 of both; 0 1 and 1 0; a second record
+    ∷ ofDisjoint (disjointOf 0 1 ∷ []) 2 ((2 ∷ []) ∷ (1 ∷ []) ∷ []) true
+    ∷ ofDisjoint (disjointOf 0 1 ∷ []) 2 ((2 ∷ []) ∷ (2 ∷ []) ∷ []) false
+    ∷ ofDisjoint (disjointOf 0 1 ∷ []) 2 ((2 ∷ []) ∷ (0 ∷ 1 ∷ []) ∷ []) true
+    ∷ ofDisjoint (disjointOf 0 2 ∷ disjointOf 1 0 ∷ []) 2 ((0 ∷ 2 ∷ []) ∷ (0 ∷ 2 ∷ []) ∷ []) false
+    -- without a record they may
+    ∷ ofDisjoint [] 2 ((2 ∷ []) ∷ (2 ∷ []) ∷ []) true
     -- a role that is under itself, or in a cycle of inclusions
     ∷ ofPairs (under 1 ∷ []) 2 ((2 ∷ []) ∷ []) true
     ∷ ofPairs (under 2 ∷ under 1 ∷ []) 2 ((2 ∷ []) ∷ (2 ∷ []) ∷ []) true
@@ -125,7 +141,7 @@ trials =
     ∷ []
 
 trials-hold : map (λ t. reads (t .given) (t .read) (t .wanted)) trials ≡ map (λ t. t .answer) trials
-unfolding trials includes composes follows satisfies allBelow anyBelow each literal truth truthWith meaning sumBelow has
+unfolding trials includes composes separates compatible follows satisfies allBelow anyBelow each literal truth truthWith meaning sumBelow has
 trials-hold = refl
 
 -- the first of them is accepted, and the line is a model of it that has the root
@@ -137,5 +153,5 @@ unfolding descriptionTests allBelow anyBelow narrow entryTest literal ifLeast if
 first-accepted = refl
 
 first-model : Model first line × Satisfies first (first .root ∷ []) line
-unfolding includes composes follows satisfies allBelow anyBelow each literal truth truthWith meaning sumBelow has
+unfolding includes composes separates compatible follows satisfies allBelow anyBelow each literal truth truthWith meaning sumBelow has
 first-model = reads↔ first line (first .root ∷ []) .0 refl

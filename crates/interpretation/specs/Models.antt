@@ -11,18 +11,19 @@ use Rattle.logic.specs.Bounded.{allBelow, anyBelow, any-intro, any-elim, all↔
 use Rattle.logic.specs.Lists.{_∈_}
 use Rattle.logic.specs.Sums.{countBelow, count-some}
 use Rattle.description.specs.Literals.{Literal, pos, neg, opposite, Label, plus, plus↔}
-use Rattle.description.specs.Descriptions.{Entry, top, name, both, every, atLeast, Description, included}
+use Rattle.description.specs.Descriptions.{Entry, top, name, both, every, atLeast, Description, included, Compatible}
 use Rattle.description.specs.Roles.{ancestor, anc-ind}
 use Rattle.description.specs.Acceptance.{Accepted, first-top}
 use Rattle.interpretation.specs.Meaning.{Interpretation, meaning, truth, truth-eq, holds, holds-opposite}
 
--- a model of the description (01: a line of it): at least one element, inclusions, transitive roles, every rule everywhere
+-- a model of the description (01: a line of it): at least one element, inclusions, transitive roles, disjoint roles, every rule everywhere
 pub record Model (D : Description) (I : Interpretation) : Type 0 where
   pub nonempty : 1 ≤ I .size
   pub inclusion : (r : ℕ) → r < D .roles → (s : ℕ) → s < D .roles → So (included D r s)
       → (x : ℕ) → x < I .size → (y : ℕ) → y < I .size → So (I .role r x y) → So (I .role s x y)
   pub transitivity : (t : ℕ) → t < D .roles → So (D .transitive t)
       → (x : ℕ) → x < I .size → (y : ℕ) → y < I .size → So (I .role t x y) → (z : ℕ) → z < I .size → So (I .role t y z) → So (I .role t x z)
+  pub disjointness : (x : ℕ) → x < I .size → (y : ℕ) → y < I .size → Compatible D (λ r. I .role r x y)
   pub rules : (i : ℕ) → i < D .rules → (x : ℕ) → x < I .size → So (holds D I (D .rule i) x)
 
 -- some element has every wanted literal; with the root alone wanted, the interpretation has the class

@@ -1,7 +1,8 @@
--- The form of a line, the inclusions and transitivity as the code tests them, on bytes and on rows as words.
+-- The form of a line, the inclusions, transitivity and roles that never share a filler as the code tests them, on bytes and on rows as words.
 use Prim.Native.Nat.{ℕ, zero, suc, _+_, _-_, _*_, _/_, _≤_, _<_}
 use mathlib.Core.Path.{_≡_, refl, sym, _∙_, ap, subst}
 use mathlib.Core.Bool.{Bool, true, false, _&&_}
+use mathlib.Core.Option.{Option}
 use mathlib.Core.List.{List}
 use native.Mathlib.Omega.{arith}
 use native.Mathlib.Decide.{decLt}
@@ -9,7 +10,7 @@ use native.Mathlib.Nat.{mul-le-mul, suc-mul, zero-mul}
 use borrow.Author.Tests.{eq-eqb, ne-eqb}
 use lib.Dec.{eqb, leb}
 use lib.ListN.{length, getD}
-use Rattle.logic.specs.Tests.{So, _⇒_, reading, so-and, and-l, and-r, same-test, imp-in}
+use Rattle.logic.specs.Tests.{So, _⇒_, reading, so-and, and-l, and-r, so-eqb, same-test, imp-in}
 use Rattle.logic.specs.Bounded.{allBelow, all-intro, all-elim, all-cong}
 use Rattle.logic.specs.Sets.{has, narrow, within, setOf}
 use Rattle.logic.specs.SetLaws.{has-setOf, within↔, no-member}
@@ -17,6 +18,7 @@ use Rattle.parts.specs.Numbers.{byteAt, num2}
 use Rattle.labels.specs.Labels.{wide, nameBytes}
 use Rattle.description.specs.Descriptions.{Description, isName, entryFrom, entryOfFields}
 use Rattle.tables.specs.Tables.{fieldsAt, describe}
+use Rattle.roles.specs.Disjoint.{recordsBy, compatibleBy, compatible-all}
 use Rattle.tables.specs.Concepts.{fieldsStruct}
 use Rattle.tables.specs.declared.Fields as Code
 use Rattle.interpretation.specs.Meaning.{Interpretation}
@@ -124,15 +126,22 @@ pub size-fits : (broad : Bool) (s : List ℕ) → sizeTest broad s ≡ true → 
 size-fits broad s h = let t = simp reading at h in (t .0, t .1 .0)
 
 module _ (rs cs s : List ℕ) (broad : Bool) (w : broad ≡ wide (length cs / 6)) where
-  pub line-stops : sizeTest broad s ≡ false → (qs : List ℕ) → false ≡ lineTest (describe rs cs qs) s
-  line-stops e qs = sym (line-is (describe rs cs qs) s ∙ rw (sym w, e) refl)
+  pub line-stops : sizeTest broad s ≡ false → (qs : List ℕ) (p : Option (List ℕ)) → false ≡ lineTest (describe rs cs qs p) s
+  line-stops e qs p = sym (line-is (describe rs cs qs p) s ∙ rw (sym w, e) refl)
 
   -- the rest is tested where the size is right
   pub line-goes-on : (d at set : ℕ) (names masks : Bool) → sizeTest broad s ≡ true → d ≡ elements s → at ≡ nameAt (nameBytes broad) d
       → set ≡ setOf (length cs / 6) (nameEntry cs) → names ≡ allBelow d (λ x. within (namesAt broad s x) set)
       → masks ≡ allBelow (d * d) (λ q. narrow (maskAt s at q) (length rs / 3))
-      → (qs : List ℕ) → (names && masks) ≡ lineTest (describe rs cs qs) s
-  line-goes-on d at set names masks e f l g p q qs = sym (line-is (describe rs cs qs) s ∙ rw (sym w, e, p, q, g, l, f) refl)
+      → (qs : List ℕ) (p : Option (List ℕ)) → (names && masks) ≡ lineTest (describe rs cs qs p) s
+  line-goes-on d at set names masks e f l g n k qs p = sym (line-is (describe rs cs qs p) s ∙ rw (sym w, e, n, k, g, l, f) refl)
+
+-- no pair has two roles that never share a filler, by the records of the masks a
+abbrev pub separatedBy : List ℕ → List ℕ → ℕ → ℕ → Bool
+separatedBy a s at d = allBelow (d * d) (λ q. compatibleBy a (maskAt s at q))
+
+pub none-separated : (a s : List ℕ) (at d : ℕ) → eqb (recordsBy a) 0 ≡ true → true ≡ separatedBy a s at d
+none-separated a s at d e = sym (all-intro (d * d) _ (λ q _. compatible-all a (maskAt s at q) (so-eqb (recordsBy a) 0 e)))
 
 -- ---- laws for inclusions
 pub no-parents : (rs s : List ℕ) (at d r : ℕ) → num2 rs (3 * r + 1) ≡ 0 → true ≡ upAt rs s at d r

@@ -1,4 +1,4 @@
--- The direct reading of a line (01, "The written line"): refusals 1 to 8, then 23; else HOLDS exactly if it is a model with the root.
+-- The direct reading of a line (01, "The written line"): refusals 1 to 8 and 26, then 23; else HOLDS exactly if it is a model with the root.
 use Prim.Native.Nat.{ℕ}
 use mathlib.Core.Path.{_≡_, refl, sym, ap}
 use mathlib.Core.Logic.{_↔_}
@@ -18,7 +18,7 @@ use Rattle.answers.specs.declared.Reading.the-variants.{Holds, Fails}
 use Rattle.answers.specs.Answers as Case
 use Rattle.answers.specs.Answers.{ofReading, case-when, Answer, HOLDS, FAILS, answer}
 
--- the refusal: 1 to 8, then 23; its record is 0
+-- the refusal: 1 to 8 and 26, then 23; its record is 0
 unfoldable pub readRefusal : List ℕ → List ℕ → Option Refusal
 readRefusal d s = refuse 0 (bytesTest d) (refuse 0 (unless (lineTest (described d) s) 23 none) none)
 

@@ -2,6 +2,7 @@
 use Prim.Native.Nat.{ℕ, _+_, _-_, _*_, _/_, _%_, _≤_, _<_}
 use mathlib.Core.Path.{_≡_, refl, sym, _∙_, ap, ap₂, subst}
 use mathlib.Core.Bool.{Bool, cond, not, _&&_, and-true}
+use mathlib.Core.Option.{Option}
 use mathlib.Core.List.{List, [], _∷_}
 use native.Mathlib.Omega.{arith}
 use native.Mathlib.Decide.{decLt}
@@ -57,10 +58,10 @@ conceptSet I t e (Every r l) = setOf (I .size) (λ x. within (reached I (r .0) x
 conceptSet I t e (AtLeast m) = setOf (I .size)
     (λ x. leb (m .bound) (countBelow (I .size) (has (bitAnd (reached I (m .role .0) x) (literalSet (I .size) t (m .literal))))))
 
--- the first n sets of the table are those at which the entries are true, whatever the other two parts of an accepted description are
+-- the first n sets of the table are those at which the entries are true, whatever the other parts of an accepted description are
 abbrev pub TruthSets : List ℕ → Interpretation → ℕ → List ℕ → Type 0
-TruthSets cs I n t = (rs qs : List ℕ) → Accepted (describe rs cs qs)
-    → Filled mostEntries (λ e. setOf (I .size) (truth (describe rs cs qs) I e)) n t
+TruthSets cs I n t = (rs qs : List ℕ) (p : Option (List ℕ)) → Accepted (describe rs cs qs p)
+    → Filled mostEntries (λ e. setOf (I .size) (truth (describe rs cs qs p) I e)) n t
 
 -- ---- literals
 literal-is : (d : ℕ) (t : List ℕ) (l : Literal) → literalSet d t (code l) ≡ setOf d (literalIn (told t) l)
@@ -107,21 +108,21 @@ set-whole t f e = elim (decLt f mostEntries) [
 ]
 
 -- where the table is right below n, the set of entry n is right
-module _ (rs cs qs t : List ℕ) (I : Interpretation) (n : ℕ) (A : Accepted (describe rs cs qs))
-    (F : Filled mostEntries (λ e. setOf (I .size) (truth (describe rs cs qs) I e)) n t) where
-  told-true : (f : ℕ) → f < n → (y : ℕ) → y < I .size → told t f y ≡ truth (describe rs cs qs) I f y
-  told-true f h y hy = ap (λ m. has m y) (set-whole t f (F .size) ∙ F .at f h) ∙ has-setOf (I .size) (truth (describe rs cs qs) I f) y hy
+module _ (rs cs qs : List ℕ) (p : Option (List ℕ)) (t : List ℕ) (I : Interpretation) (n : ℕ) (A : Accepted (describe rs cs qs p))
+    (F : Filled mostEntries (λ e. setOf (I .size) (truth (describe rs cs qs p) I e)) n t) where
+  told-true : (f : ℕ) → f < n → (y : ℕ) → y < I .size → told t f y ≡ truth (describe rs cs qs p) I f y
+  told-true f h y hy = ap (λ m. has m y) (set-whole t f (F .size) ∙ F .at f h) ∙ has-setOf (I .size) (truth (describe rs cs qs p) I f) y hy
 
-  entry-true : n < length cs / 6 → conceptSet I t n (conceptAt cs n) ≡ setOf (I .size) (truth (describe rs cs qs) I n)
+  entry-true : n < length cs / 6 → conceptSet I t n (conceptAt cs n) ≡ setOf (I .size) (truth (describe rs cs qs p) I n)
   entry-true h = concept-is I t n (entryOfFields (fieldsAt cs n))
       ∙ setOf-cong (I .size) _ _ (λ x hx.
-      meaning-cong (describe rs cs qs) I (told t) (truth (describe rs cs qs) I) n x _ (A .fields n h) hx told-true
-      ∙ sym (truth-eq (describe rs cs qs) A I n x _ h refl))
+      meaning-cong (describe rs cs qs p) I (told t) (truth (describe rs cs qs p) I) n x _ (A .fields n h) hx told-true
+      ∙ sym (truth-eq (describe rs cs qs p) A I n x _ h refl))
 
   -- a literal of the table is told right
-  literal-true : (l : ℕ) → entryOf (literal l) < n → literalSet (I .size) t l ≡ setOf (I .size) (holds (describe rs cs qs) I (literal l))
+  literal-true : (l : ℕ) → entryOf (literal l) < n → literalSet (I .size) t l ≡ setOf (I .size) (holds (describe rs cs qs p) I (literal l))
   literal-true l h = ap (literalSet (I .size) t) (sym (code-literal l)) ∙ literal-is (I .size) t (literal l)
-      ∙ setOf-cong (I .size) _ _ (λ y hy. literal-cong (told t) (truth (describe rs cs qs) I) (literal l) y (told-true _ h y hy))
+      ∙ setOf-cong (I .size) _ _ (λ y hy. literal-cong (told t) (truth (describe rs cs qs p) I) (literal l) y (told-true _ h y hy))
 
 -- ---- laws for the code
 pub set-here : (t : List ℕ) (l : ℕ) → l < mostLiterals → getD t (l / 2) 0 ≡ setIn t (l / 2)
@@ -146,22 +147,22 @@ concept-read cs I t e k c v p q r = r ∙ ap (conceptSet I t e) (sym p ∙ q)
 -- one entry more
 pub truth-more : (cs : List ℕ) (I : Interpretation) (e : ℕ) (t : List ℕ) (v : ℕ) → e < mostEntries → e < length cs / 6
     → v ≡ conceptSet I t e (conceptAt cs e) → TruthSets cs I e t → TruthSets cs I (e + 1) (set t e v)
-truth-more cs I e t v h k q F rs qs A = filled-more v h (q ∙ entry-true rs cs qs t I e A (F rs qs A) k) (F rs qs A)
+truth-more cs I e t v h k q F rs qs p A = filled-more v h (q ∙ entry-true rs cs qs p t I e A (F rs qs p A) k) (F rs qs p A)
 
 pub truth-done : (cs : List ℕ) (I : Interpretation) (e n : ℕ) (t : List ℕ) → e ≤ n → n ≤ e → TruthSets cs I e t → TruthSets cs I n t
 truth-done cs I e n t h k F = let z : e ≡ n = omega arith in subst (λ m. TruthSets cs I m t) z F
 
 -- the rules everywhere and the root somewhere
-module _ (rs cs qs t : List ℕ) (I : Interpretation) (A : Accepted (describe rs cs qs)) (F : TruthSets cs I (length cs / 6) t) where
+module _ (rs cs qs : List ℕ) (p : Option (List ℕ)) (t : List ℕ) (I : Interpretation) (A : Accepted (describe rs cs qs p)) (F : TruthSets cs I (length cs / 6) t) where
   pub follows-is : allBelow (length qs - 1) (λ i. eqb (literalSet (I .size) t (byteAt qs (i + 1))) (allOf (I .size)))
-      ≡ follows (describe rs cs qs) I
+      ≡ follows (describe rs cs qs p) I
   unfolding follows
   follows-is = all-cong (length qs - 1) _ _ (λ i h. ap (λ m. eqb m (allOf (I .size)))
-      (literal-true rs cs qs t I _ A (F rs qs A) (byteAt qs (i + 1)) (A .rules-in i h))
-      ∙ full-setOf (I .size) (holds (describe rs cs qs) I (literal (byteAt qs (i + 1)))))
+      (literal-true rs cs qs p t I _ A (F rs qs p A) (byteAt qs (i + 1)) (A .rules-in i h))
+      ∙ full-setOf (I .size) (holds (describe rs cs qs p) I (literal (byteAt qs (i + 1)))))
 
-  pub satisfies-is : nonempty (literalSet (I .size) t (byteAt qs 0)) ≡ satisfies (describe rs cs qs) I (describe rs cs qs .root ∷ [])
+  pub satisfies-is : nonempty (literalSet (I .size) t (byteAt qs 0)) ≡ satisfies (describe rs cs qs p) I (describe rs cs qs p .root ∷ [])
   unfolding satisfies each
-  satisfies-is = ap nonempty (literal-true rs cs qs t I _ A (F rs qs A) (byteAt qs 0) (A .root-in))
-      ∙ some-setOf (I .size) (holds (describe rs cs qs) I (literal (byteAt qs 0)))
-      ∙ any-cong (I .size) _ _ (λ x _. sym (and-true (holds (describe rs cs qs) I (literal (byteAt qs 0)) x)))
+  satisfies-is = ap nonempty (literal-true rs cs qs p t I _ A (F rs qs p A) (byteAt qs 0) (A .root-in))
+      ∙ some-setOf (I .size) (holds (describe rs cs qs p) I (literal (byteAt qs 0)))
+      ∙ any-cong (I .size) _ _ (λ x _. sym (and-true (holds (describe rs cs qs p) I (literal (byteAt qs 0)) x)))

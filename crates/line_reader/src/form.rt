@@ -1,6 +1,7 @@
 // Test 23: the form of a line.
 ghost use mathlib.Core.Path.{_≡_};
 ghost use mathlib.Core.List.{List};
+ghost use mathlib.Core.Option.{Option};
 ghost use Prim.Native.Nat.{ℕ, _*_, _/_, _<_, _≤_};
 ghost use lib.ListN.{length};
 ghost use Rattle.logic.specs.Bounded.{allBelow};
@@ -94,7 +95,7 @@ fn masks_ok(s: &[u8], at: usize, d: usize, n: usize) -> bool
 // Test 23; `broad` tells the width of the name masks.
 pub(crate) fn line_ok(rs: &[u8], cs: &[u8], s: &[u8], broad: bool) -> bool
     requires { ⌜ (length (now cs) / 6 ≤ mostEntries) × (broad ≡ wide (length (now cs) / 6)) ⌝ }
-    ensures { λ r. ⌜ ((qs : List ℕ) → r ≡ lineTest (describe (now (rs .entry)) (now (cs .entry)) qs) (now (s .entry))) ⌝ }
+    ensures { λ r. ⌜ ((qs : List ℕ) (p : Option (List ℕ)) → r ≡ lineTest (describe (now (rs .entry)) (now (cs .entry)) qs p) (now (s .entry))) ⌝ }
 {
     if !size_ok(s, broad) {
         return false;

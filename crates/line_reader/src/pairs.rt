@@ -1,4 +1,5 @@
-// The pairs of a line: rows as sets of elements, the inclusions and transitivity. The role masks lie from `at` on.
+// The pairs of a line: rows as sets of elements, the inclusions, transitivity, and roles that never share a filler. The role masks lie from
+// `at` on.
 ghost use mathlib.Core.Path.{_≡_};
 ghost use Prim.Native.Nat.{ℕ, _/_, _<_, _≤_};
 ghost use lib.ListN.{length, getD};
@@ -6,7 +7,7 @@ ghost use Rattle.logic.specs.Tests.{_⇒_};
 ghost use Rattle.logic.specs.Bounded.{allBelow};
 ghost use Rattle.logic.specs.Sets.{has, within};
 ghost use Rattle.lines.specs.Lines.{mostElements};
-ghost use Rattle.line_reader.specs.LineSteps.{pairIn, rowOf, upBy, upAt, closedAt, composesAt};
+ghost use Rattle.line_reader.specs.LineSteps.{pairIn, rowOf, upBy, upAt, closedAt, composesAt, separatedBy};
 use super::places::bit_at;
 use super::places::mask_at;
 use super::places::pair_count;
@@ -15,6 +16,8 @@ use super::sets::has64;
 use lines::MOST_ELEMENTS;
 use parts::byte;
 use parts::mask2;
+use roles::disjoint::compatible;
+use roles::disjoint::no_records;
 use roles::has16;
 use tables::RoleNo;
 use words::push;
@@ -171,6 +174,25 @@ pub(crate) fn transitivity_ok(rs: &[u8], s: &[u8], at: usize, d: usize) -> bool
             return false;
         }
         t += 1;
+    }
+    true
+}
+
+// Whether no pair has both roles of a record, by the masks `a`.
+pub(crate) fn separated_ok(a: &[u16; 49], s: &[u8], at: usize, d: usize) -> bool
+    requires { ⌜ (at ≤ 65536) × (d ≤ mostElements) ⌝ }
+    ensures { λ q. ⌜ q ≡ separatedBy (now (a .entry)) (now (s .entry)) at d ⌝ }
+{
+    if no_records(a) {
+        return true;
+    }
+    let pairs = pair_count(d);
+    let mut p: usize = 0;
+    while p < pairs {
+        if !compatible(a, mask_at(s, at, p)) {
+            return false;
+        }
+        p += 1;
     }
     true
 }

@@ -12,11 +12,11 @@ use Rattle.logic.specs.Sets.{has, narrow, nonempty, within, setOf}
 use Rattle.logic.specs.Sums.{sumBelow, maxBelow}
 use Rattle.parts.specs.Pairs.{fills, fillsFrom}
 use Rattle.description.specs.Literals.{literal, members}
-use Rattle.description.specs.Descriptions.{entryFrom, sameEntry, ifBoth, ifEvery, ifLeast}
+use Rattle.description.specs.Descriptions.{compatible, entryFrom, sameEntry, ifBoth, ifEvery, ifLeast}
 use Rattle.description.specs.Roles.{ancestor, simple}
 use Rattle.description.specs.Acceptance.{entryTest, descriptionTests}
 use Rattle.interpretation.specs.Meaning.{meaning, truthWith, truth}
-use Rattle.interpretation.specs.Reading.{includes, composes, follows, satisfies}
+use Rattle.interpretation.specs.Reading.{includes, composes, separates, follows, satisfies}
 use Rattle.graph.specs.Graphs.{total}
 use Rattle.graph.specs.GraphTests.{labelTest, bothTest, edgeTest, everyTest, countTest, nodeRefusal, graphRefusal}
 use Rattle.graph.specs.Line.{copies, joins, direct, pairs}
@@ -26,7 +26,7 @@ use Rattle.evidence.specs.Evidence.{headTest, nodeFormTest}
 use Rattle.lines.specs.Lines.{lineTest, lineByte}
 use Rattle.answers.specs.Answers.{Answer, answer, WRITTEN, HOLDS, FAILS, REFUSED}
 use Rattle.graph_check.specs.GraphEvidence.{graphTests, graphRefused}
-use Rattle.graph_check.specs.Examples.{parts, entry, node, edge, one, first, third, filled}
+use Rattle.graph_check.specs.Examples.{parts, apart, entry, node, edge, one, first, third, filled}
 use Rattle.line_reader.specs.Reading.{readRefusal, readAnswer}
 use Rattle.line_writer.specs.Writing.{writeRefused, writeAnswer, writeLength, bufferAfter}
 
@@ -58,6 +58,10 @@ narrowLine = 1 ∷ 128 ∷ 0 ∷ 0 ∷ 0 ∷ 0 ∷ 0 ∷ []
 
 abbrev wideLine : List ℕ
 wideLine = 1 ∷ 0 ∷ 0 ∷ 0 ∷ 1 ∷ 0 ∷ 0 ∷ 0 ∷ 0 ∷ 0 ∷ 0 ∷ []
+
+-- two elements without a name; the pairs to each of them, from both alike, have those roles
+abbrev pairLine : ℕ → ℕ → List ℕ
+pairLine to0 to1 = 2 ∷ replicate 8 0 ++ 0 ∷ to0 ∷ 0 ∷ to1 ∷ 0 ∷ to0 ∷ 0 ∷ to1 ∷ []
 
 record Trial : Type 0 where
   pub description : List ℕ
@@ -109,6 +113,16 @@ trials =
       after = wideLine;
     }
     ∷ refused (named 32) (one (replicate 7 0 ++ 1 ∷ replicate 7 0 ++ 1 ∷ [])) (replicate 10 165) 22
+    -- roles 0 and 1 never share a filler: a loop with each makes two copies, and each role leads to its own
+    ∷ record {
+      description = apart 2 (0 ∷ 1 ∷ []);
+      evidence = one (node 1 (edge 0 1 1 ++ edge 0 2 1));
+      buffer = replicate 17 165;
+      told = answer WRITTEN none;
+      long = 17;
+      after = pairLine 1 2;
+    }
+    ∷ refused (apart 2 (0 ∷ 1 ∷ [])) (one (node 1 (edge 0 3 1))) (replicate 17 165) 13
     ∷ []
 
 -- the answer, the length and every byte of the buffer, by the definitions
@@ -123,9 +137,10 @@ tried t = record {
 }
 
 trials-hold : map tried trials ≡ trials
-unfolding trials writeRefused graphRefused graphTests graphRefusal refuseFrom headTest nodeFormTest labelBytes nameBytes labelIn nodeRefusal labelTest bothTest edgeTest everyTest countTest total each some? tabulate members nonempty
-    bytesTest partsTest sizesTest fills fillsFrom descriptionTests allBelow anyBelow narrow entryTest literal entryFrom ifBoth ifLeast ifEvery simple ancestor closure has sameEntry
-    copies maxBelow lineByte setOf joins direct pairs
+unfolding trials writeRefused graphRefused graphTests graphRefusal refuseFrom headTest nodeFormTest labelBytes nameBytes labelIn
+    nodeRefusal labelTest bothTest edgeTest compatible everyTest countTest total each some? tabulate members nonempty bytesTest partsTest
+    sizesTest fills fillsFrom descriptionTests allBelow anyBelow narrow entryTest literal entryFrom ifBoth ifLeast ifEvery simple ancestor
+    closure has sameEntry copies maxBelow lineByte setOf joins direct pairs
 trials-hold = refl
 
 abbrev formless : Answer
@@ -142,8 +157,9 @@ reads-hold : map (readAnswer third) (
     ∷ []
     )
     ≡ (answer HOLDS none ∷ answer HOLDS none ∷ answer FAILS none ∷ formless ∷ formless ∷ [])
-unfolding readAnswer readRefusal lineTest nameBytes namesIn within setOf includes composes follows satisfies truth truthWith meaning sumBelow each
-    bytesTest partsTest sizesTest fills fillsFrom descriptionTests allBelow anyBelow narrow entryTest literal entryFrom ifLeast ifEvery simple ancestor closure has sameEntry
+unfolding readAnswer readRefusal lineTest nameBytes namesIn within setOf includes composes separates compatible follows satisfies truth
+    truthWith meaning sumBelow each bytesTest partsTest sizesTest fills fillsFrom descriptionTests allBelow anyBelow narrow entryTest
+    literal entryFrom ifLeast ifEvery simple ancestor closure has sameEntry
 reads-hold = refl
 
 -- with 32 entries the masks of 4 bytes are read, with 33 those of 8: the other line has not the length; a bit for entry 33 is of none;
@@ -151,6 +167,16 @@ reads-hold = refl
 widths-read : map (readAnswer (named 31)) (narrowLine ∷ wideLine ∷ [])
     ++ map (readAnswer (named 32)) (wideLine ∷ narrowLine ∷ (1 ∷ 0 ∷ 0 ∷ 0 ∷ 2 ∷ replicate 6 0) ∷ (1 ∷ replicate 10 0) ∷ [])
     ≡ (answer HOLDS none ∷ formless ∷ answer HOLDS none ∷ formless ∷ formless ∷ answer FAILS none ∷ [])
-unfolding readAnswer readRefusal lineTest nameBytes namesIn within setOf includes composes follows satisfies truth truthWith meaning sumBelow each
-    bytesTest partsTest sizesTest fills fillsFrom descriptionTests allBelow anyBelow narrow entryTest literal entryFrom ifLeast ifEvery simple ancestor closure has sameEntry
+unfolding readAnswer readRefusal lineTest nameBytes namesIn within setOf includes composes separates compatible follows satisfies truth
+    truthWith meaning sumBelow each bytesTest partsTest sizesTest fills fillsFrom descriptionTests allBelow anyBelow narrow entryTest
+    literal entryFrom ifLeast ifEvery simple ancestor closure has sameEntry
 widths-read = refl
+
+-- the line with each role on a pair of its own is read as a model, one with both on a pair is none; without records it is one
+records-read : map (readAnswer (apart 2 (0 ∷ 1 ∷ []))) (pairLine 1 2 ∷ pairLine 1 3 ∷ pairLine 3 2 ∷ [])
+    ++ map (readAnswer (apart 2 [])) (pairLine 1 3 ∷ [])
+    ≡ (answer HOLDS none ∷ answer FAILS none ∷ answer FAILS none ∷ answer HOLDS none ∷ [])
+unfolding readAnswer readRefusal lineTest nameBytes namesIn within setOf includes composes separates compatible follows satisfies truth
+    truthWith meaning sumBelow each bytesTest partsTest sizesTest fills fillsFrom descriptionTests allBelow anyBelow narrow entryTest
+    literal entryFrom ifLeast ifEvery simple ancestor closure has sameEntry
+records-read = refl

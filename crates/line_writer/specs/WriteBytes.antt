@@ -4,6 +4,7 @@ use mathlib.Core.Path.{_≡_, refl, sym, _∙_, ap}
 use mathlib.Core.Logic.{_↔_, inl, inr}
 use mathlib.Core.Bool.{Bool, true, false, _&&_}
 use mathlib.Core.List.{List, _++_}
+use mathlib.Core.Option.{Option}
 use native.Mathlib.Omega.{arith}
 use native.Mathlib.Decide.{decLt, decLe}
 use native.Mathlib.Nat.{div-add-mod', div-lt-iff-lt-mul, mod-lt, mul-comm, mul-le-mul}
@@ -17,12 +18,12 @@ use Rattle.description.specs.Literals.{members}
 use Rattle.description.specs.Descriptions.{Description, isName, wanted}
 use Rattle.description.specs.Roles.{ancestor}
 use Rattle.description.specs.Acceptance.{Accepted}
-use Rattle.tables.specs.Tables.{describe}
+use Rattle.tables.specs.Tables.{recordsIn, describe}
 use Rattle.roles.specs.Ancestors.{roleCount}
 use Rattle.roles.specs.Records.{MasksOf, masks-above, masks-transitive}
 use Rattle.labels.specs.Labels.{mostEntries, nameBytes, namesIn, mask-some}
 use Rattle.evidence.specs.declared.Layout.{Layout}
-use Rattle.evidence.specs.Evidence.{recordCount, layoutOf, HeadOk, recordAt, labelOf, edgesPart, graphIn, graph-size, NodeForm}
+use Rattle.evidence.specs.Evidence.{recordCount, HeadOk, recordAt, labelOf, edgesPart, graphIn, graph-size, NodeForm}
 use Rattle.evidence.specs.InPlace.{label-there, edges-there, edges-few}
 use Rattle.copies.specs.Copying.{ownerMask, owner-is}
 use Rattle.closing.specs.Closing.{maskAt, closedMask, closedByte}
@@ -33,6 +34,7 @@ use Rattle.lines.specs.Lines.{wideNames, nameSize, nameAt, lineLength, nameMask
 use Rattle.lines.specs.LineLaws.{pair-below, pair-row, pair-column, name-next, byte-size, byte-names, byte-pairs, written}
 use Rattle.lines.specs.Numerals.{Bytes, names}
 use Rattle.lines.specs.Laying.{Laid, Masks, Names, names-local, laid-one}
+use Rattle.graph_check.specs.GraphSteps.{layoutIn}
 use Rattle.line_writer.specs.WriteSteps.{namesOf, elementNames, transitivesIn, directMasks}
 use Rattle.line_writer.specs.WriteJoin.{closed-is}
 
@@ -69,15 +71,17 @@ lay-steps t cs f s a k d at old named direct new some q n r b c = record {
   bytes = λ p. c .1 p ∙ ap (λ i. closedByte direct i d t a p) q;
 }
 
-module _ (rs cs qs : List ℕ) (A : Accepted (describe rs cs qs)) (few : length rs / 3 ≤ 16) (table : length cs / 6 ≤ mostEntries)
-    (s : List ℕ) (head : HeadOk s) (formed : (x : ℕ) → x < recordCount s → NodeForm (layoutOf (describe rs cs qs)) (length (recordAt s x)))
-    (keeps : Keeps (describe rs cs qs) (wanted (describe rs cs qs)) (graphIn (layoutOf (describe rs cs qs)) s)) where
+-- for a graph as the code reads it, which is the same with and without the mark of a cell
+module _ (rs cs qs : List ℕ) (p : Option (List ℕ)) (A : Accepted (describe rs cs qs p)) (few : length rs / 3 ≤ 16)
+    (table : length cs / 6 ≤ mostEntries) (s : List ℕ) (head : HeadOk s)
+    (formed : (x : ℕ) → x < recordCount s → NodeForm (layoutIn cs) (length (recordAt s x)))
+    (keeps : Keeps (describe rs cs qs p) (wanted (describe rs cs qs p)) (graphIn (layoutIn cs) s)) where
   abbrev D : Description
-  D = describe rs cs qs
+  D = describe rs cs qs p
 
   -- how the evidence is stored, the bytes of a name mask, and the graph
   abbrev f : Layout
-  f = layoutOf D
+  f = layoutIn cs
 
   abbrev w : ℕ
   w = nameSize D
@@ -177,11 +181,11 @@ module _ (rs cs qs : List ℕ) (A : Accepted (describe rs cs qs)) (few : length 
           beyond p h = outside p (rw size room) (λ l g. omega arith)
 
   -- so a buffer that the code has filled is the line, and then the old bytes
-  pub laid-line : (a old new : List ℕ) → MasksOf rs a → lineLength w d ≤ length old
+  pub laid-line : (a old new : List ℕ) → MasksOf rs (recordsIn p) a → lineLength w d ≤ length old
       → LaidLine (transitivesIn a (roleCount rs)) cs f s a k d old new → new ≡ lineBytes D (line D G) ++ drop (lineLength w d) old
   unfolding transitivesIn
   laid-line a old new masks room L = line-written (L .direct) (L .named) (L .rows) (transitivesIn a (roleCount rs)) transitive a
-      (λ r h. masks-above rs a masks r (omega arith) cs qs few) old new
+      (λ r h. masks-above rs (recordsIn p) a masks r (omega arith) cs qs p few) old new
       (L .rows .whole ∙ L .names .whole ∙ L .count .whole) room
       (L .rows .others 0 (inl (omega arith)) ∙ L .names .others 0 (inl (omega arith)) ∙ L .count .numbers 0 (omega arith))
       name-byte
@@ -192,7 +196,8 @@ module _ (rs cs qs : List ℕ) (A : Accepted (describe rs cs qs)) (few : length 
       transitive r = rw (
         up-to-all 16 (length rs / 3) few,
         up-to-all 16 (length rs / 3) few,
-        setOf-cong (length rs / 3) (λ r. has (getD a (16 + r) 0) r) (D .transitive) (λ i h. masks-transitive rs a masks i (omega arith) cs qs few),
+        setOf-cong (length rs / 3) (λ r. has (getD a (16 + r) 0) r) (D .transitive)
+            (λ i h. masks-transitive rs (recordsIn p) a masks i (omega arith) cs qs p few),
       )
           (setOf↔ (length rs / 3) (D .transitive) r)
 

@@ -1,4 +1,4 @@
--- The writer's answers in their order: 1 to 8, 9 to 15 of the graph, then 21, then 22, then the line.
+-- The writer's answers in their order: 1 to 8 and 26, 9 to 15 of the graph, then 21, then 22, then the line.
 use Prim.Native.Nat.{ℕ, _*_, _%_, _≤_, _<_}
 use mathlib.Core.Path.{_≡_, refl, sym, _∙_, ap, subst}
 use mathlib.Core.List.{List, _++_}
@@ -20,10 +20,10 @@ use Rattle.answers.specs.declared.Written.{Written}
 use Rattle.answers.specs.declared.Written.the-variants.{Line, Refused}
 use Rattle.answers.specs.Answers.{answer, WRITTEN, wholly, ofWritten, lengthOf, unlessRefused, buffered}
 use Rattle.description.specs.Descriptions.{Description, wanted}
-use Rattle.tables.specs.Tables.{describe}
+use Rattle.tables.specs.Tables.{recordsIn, describe}
 use Rattle.roles.specs.Ancestors.{roleCount}
 use Rattle.roles.specs.Records.{MasksOf}
-use Rattle.intake.specs.Intake.{rolesPart, conceptsPart, queryPart, partsTest, parts-accepted, bytesTest, described}
+use Rattle.intake.specs.Intake.{rolesPart, conceptsPart, queryPart, disjointPart, partsTest, parts-accepted, bytesTest, described}
 use Rattle.intake.specs.Opening.{wholly-none, parts-fine}
 use Rattle.nodes.specs.NodeSteps.{rootSet}
 use Rattle.evidence.specs.InPlace.{edges-behind, edges-few}
@@ -126,12 +126,14 @@ record Wrote (D : Description) (s old new : List ℕ) (r : Written) (o : Option 
   pub long : lengthOf r ≡ unlessRefused 0 (graphLength D s) o
   pub buffer : new ≡ buffered (lineBytes D (line D (graphIn (layoutOf D) s))) old o
 
-module _ (rs cs qs : List ℕ) (a s old : List ℕ) (masks : MasksOf rs a) (fine : partsTest rs cs qs ≡ none) where
+module _ (rs cs qs : List ℕ) (p : Option (List ℕ)) (a s old : List ℕ) (masks : MasksOf rs (recordsIn p) a)
+    (fine : partsTest rs cs qs p ≡ none) where
   abbrev D : Description
-  D = describe rs cs qs
+  D = describe rs cs qs p
 
+  -- a graph is the same with and without the mark of a cell
   abbrev f : Layout
-  f = layoutOf D
+  f = layoutIn cs
 
   abbrev room : Option ℕ
   room = roomTest (line D (graphIn f s) .size) (graphLength D s) (length old)
@@ -163,16 +165,16 @@ module _ (rs cs qs : List ℕ) (a s old : List ℕ) (masks : MasksOf rs a) (fine
 
         filled : (o : Option ℕ) → room ≡ o → After (transitivesIn a (roleCount rs)) cs f s a old new (refuse 0 o none)
             → new ≡ unlessRefused old (lines ++ drop (graphLength D s) old) (refuse 0 o none)
-        filled none e L = let p = parts-accepted rs cs qs fine in let g = graph-kept in
+        filled none e L = let k = parts-accepted rs cs qs p fine in let g = graph-kept in
             let enough = unless↔ (leb (line D (graphIn f s) .size) mostElements) 21 _ .0 e .1 in
-            laid-line rs cs qs (p .2) (p .0) (p .1) s (g .head) (g .formed) (g .keeps) a old new masks
+            laid-line rs cs qs p (k .2) (k .0) (k .1) s (g .head) (g .formed) (g .keeps) a old new masks
             (so-leb (graphLength D s) (length old) (unless↔ (leb (graphLength D s) (length old)) 22 none .0 enough .0))
             (rw (size-is, copies-is) at L)
         filled (some n) e L = L
 
   opened-wrote : (new : List ℕ) (r : Written) → OpenedTold a (roleCount rs) cs qs s old new r
       → Wrote D s old new r (firstOf (graphTests D (wanted D) s) (refuse 0 room none))
-  opened-wrote new r T = go (graphTests D (wanted D) s) refl (rw (sample-is rs cs qs a s masks fine) at T)
+  opened-wrote new r T = go (graphTests D (wanted D) s) refl (rw (sample-is rs cs qs p a s masks fine) at T)
     where
       go : (o : Option Refusal) → graphTests D (wanted D) s ≡ o
           → Told (transitivesIn a (roleCount rs)) cs (layoutIn cs) s a old new r (firstOf o (roomIn (layoutIn cs) s (length old)))
@@ -180,7 +182,7 @@ module _ (rs cs qs : List ℕ) (a s old : List ℕ) (masks : MasksOf rs a) (fine
       go none e T = line-wrote e new r T
       go (some z) e T = record { says = T .says; long = T .long; buffer = T .after }
 
--- ---- 1 to 8, then the opened description
+-- ---- 1 to 8 and 26, then the opened description
 module _ (d s old : List ℕ) where
   -- the public promise, in one
   abbrev pub Writes : List ℕ → Written → Type 0
@@ -190,9 +192,11 @@ module _ (d s old : List ℕ) where
   unfolding writeRefused graphRefused
   write-refused n i e = rw (refuse-some 0 (bytesTest d) (graphTests (described d) (wanted (described d)) s) _ (sym e)) (refl, (refl, refl))
 
-  pub write-opened : (a : List ℕ) (m : ℕ) (cs qs new : List ℕ) (r : Written) → none ≡ wholly (bytesTest d) → MasksOf (rolesPart d) a
+  pub write-opened : (a : List ℕ) (m : ℕ) (cs qs new : List ℕ) (r : Written) → none ≡ wholly (bytesTest d)
+      → MasksOf (rolesPart d) (recordsIn (disjointPart d)) a
       → m ≡ roleCount (rolesPart d) → cs ≡ conceptsPart d → qs ≡ queryPart d → OpenedTold a m cs qs s old new r → Writes new r
   unfolding writeRefused graphRefused
   write-opened a m cs qs new r e masks k p q T = let fine = sym (wholly-none (bytesTest d) e) in
-      let w = opened-wrote (rolesPart d) (conceptsPart d) (queryPart d) a s old masks (parts-fine d fine) new r (rw (k, p, q) at T) in
+      let w = opened-wrote (rolesPart d) (conceptsPart d) (queryPart d) (disjointPart d) a s old masks (parts-fine d fine) new r
+      (rw (k, p, q) at T) in
       rw fine (w .says, (w .long, w .buffer))

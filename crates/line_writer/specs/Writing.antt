@@ -33,7 +33,7 @@ lineSize d s = lineLength (nameSize (described d)) (lineOf d s .size)
 abbrev pub roomTest : ℕ → ℕ → ℕ → Option ℕ
 roomTest size long n = unless (leb size mostElements) 21 (unless (leb long n) 22 none)
 
--- 1 to 15, as for the graph's answer, then 21, then 22
+-- 1 to 8, 26 and 9 to 15, as for the graph's answer, then 21, then 22
 unfoldable pub writeRefused : List ℕ → List ℕ → ℕ → Option Refusal
 writeRefused d s n = firstOf (graphRefused d s) (refuse 0 (roomTest (lineOf d s .size) (lineSize d s) n) none)
 

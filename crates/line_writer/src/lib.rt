@@ -154,7 +154,7 @@ fn with_transitive(m: u64, carry: u16, r: u8) -> u64
 }
 
 // The transitive ones of so many roles.
-fn transitive_roles(a: &[u16; 32], roles: u8) -> u16
+fn transitive_roles(a: &[u16; 49], roles: u8) -> u16
     ensures { λ r. ⌜ r ≡ transitivesIn (now (a .entry)) roles ⌝ }
 {
     let n = up_to(16, roles as usize);
@@ -176,7 +176,7 @@ fn rows_at(size: usize, broad: bool) -> usize
 }
 
 // The line of `d` elements, `k` copies of each record, with the transitive roles `t` and the masks `a` of the roles.
-fn lay_line(buf: &mut [u8], t: u16, a: &[u16; 32], cs: &[u8], s: &[u8], d: u8, k: u8, f: Layout)
+fn lay_line(buf: &mut [u8], t: u16, a: &[u16; 49], cs: &[u8], s: &[u8], d: u8, k: u8, f: Layout)
     requires { ⌜ (1 ≤ k) × (lineLength (nameBytes (f .wide)) d ≤ length (now buf)) × (f .wide ≡ wide (length (now cs) / 6)) ⌝ }
     ensures { λ _. ⌜ LaidLine t (now (cs .entry)) f (now (s .entry)) (now (a .entry)) k d (now (buf .entry)) (now (buf .exit)) ⌝ }
 {
@@ -204,11 +204,11 @@ fn line_length(size: usize, broad: bool) -> usize
 }
 
 // 21, 22, and then the line, for a graph that keeps the rules, with the transitive roles `t` and the masks `a` of the roles.
-fn write_kept(buf: &mut [u8], t: u16, a: &[u16; 32], cs: &[u8], s: &[u8]) -> Written
+fn write_kept(buf: &mut [u8], t: u16, a: &[u16; 49], cs: &[u8], s: &[u8]) -> Written
     requires { ⌜ 1 ≤ recordCount (now s) ⌝ }
     ensures { λ r. ⌜ ToldOf t (now (cs .entry)) (now (s .entry)) (now (a .entry)) (now (buf .entry)) (now (buf .exit)) r ⌝ }
 {
-    let f = layout_of(cs);
+    let f = layout_of(cs, false);
     let n = byte(s, 1);
     let k = most_copies(s, n, f);
     let size = element_count(n, k);
@@ -224,7 +224,7 @@ fn write_kept(buf: &mut [u8], t: u16, a: &[u16; 32], cs: &[u8], s: &[u8]) -> Wri
 }
 
 // Tests 9 to 15 of the graph, then the line, by the masks of so many roles.
-fn write_opened(buf: &mut [u8], a: &[u16; 32], roles: u8, cs: &[u8], qs: &[u8], s: &[u8]) -> Written
+fn write_opened(buf: &mut [u8], a: &[u16; 49], roles: u8, cs: &[u8], qs: &[u8], s: &[u8]) -> Written
     ensures { λ r. ⌜ OpenedTold (now (a .entry)) roles (now (cs .entry)) (now (qs .entry)) (now (s .entry)) (now (buf .entry)) (now (buf .exit)) r ⌝ }
 {
     let tested = test_sample(a, roles, cs, qs, s);

@@ -57,6 +57,8 @@ module _ (D : Description) (A : Accepted D) (I J : Interpretation) (same : Alike
     inclusion = λ r hr s hs p x hx y hy q. sym (role s hs x y hx hy) ∙ M .inclusion r hr s hs p x (here x hx) y (here y hy) (role r hr x y hx hy ∙ q);
     transitivity = λ t ht c x hx y hy p z hz q. sym (role t ht x z hx hz)
         ∙ M .transitivity t ht c x (here x hx) y (here y hy) (role t ht x y hx hy ∙ p) z (here z hz) (role t ht y z hy hz ∙ q);
+    disjointness = λ x hx y hy i hi p q. let o = A .disjoints-ok i hi .0 in
+        M .disjointness x (here x hx) y (here y hy) i hi (role _ (o .0) x y hx hy ∙ p) (role _ (o .1) x y hx hy ∙ q);
     rules = λ i hi x hx. sym (holds-alike (D .rule i) x (A .rules-in i hi) (here x hx)) ∙ M .rules i hi x (here x hx);
   }
     where

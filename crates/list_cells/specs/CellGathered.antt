@@ -1,6 +1,6 @@
 -- What the cells have of the arrays, once these are filled, is the known label of test 18.
 use Prim.Native.Nat.{ℕ, _+_, _≤_, _<_}
-use mathlib.Core.Path.{_≡_, refl, sym, _∙_, ap, subst}
+use mathlib.Core.Path.{_≡_, refl, sym, _∙_, ap, ap₂, subst}
 use mathlib.Core.Logic.{_↔_, inl, inr}
 use mathlib.Core.Bool.{Bool, true, false, _&&_, _||_}
 use mathlib.Core.List.{List}
@@ -18,13 +18,16 @@ use Rattle.description.specs.Descriptions.{entryOfFields}
 use Rattle.tables.specs.Tables.{fieldsAt}
 use Rattle.tables.specs.Tables.{entryCount}
 use Rattle.refutation.specs.Cells.{Row}
+use Rattle.refutation.specs.RecordTests.{cellFits}
+use Rattle.roles.specs.Disjoint.{compatibleBy}
+use Rattle.list_form.specs.ListForm.{cellOf}
 use Rattle.cell_walk.specs.Walks.{rowGives, rolesIn}
 use Rattle.rows.specs.declared.Row as Held
 use Rattle.rows.specs.HeldRows.{given, heldAt, rowsHeld}
-use Rattle.list_cells.specs.CellSteps.{room, rowRole, roleOf, rowShows, everyShows, carriedAt, knownIn, cellFine}
+use Rattle.list_cells.specs.CellSteps.{room, rowRole, roleOf, rowShows, everyShows, carriedAt, knownIn, answerWith, cellFine}
 use Rattle.list_cells.specs.CellLaws.{isEvery↔, any-held}
 use Rattle.list_cells.specs.CellRows.{maskAt, labelAt, Masks, Labels, aboveOf, bitOf, showsOwn, shownBy, deniedBy}
-use Rattle.list_cells.specs.CellRows.{gives, gatheredBy, gathered, citedIn, gatheredOn}
+use Rattle.list_cells.specs.CellRows.{gives, gatheredBy, gathered, gatheredOn}
 
 -- what is in a number or 0
 only-has : (b : Bool) (n l : ℕ) → So (has (only b n) l) → So b × So (has n l)
@@ -198,9 +201,11 @@ module _ (a : List ℕ) (rows : List Held.Row) (k : ℕ) (few : k ≤ 6) (above 
           ∙ ap (λ b. b || anyBelow (entryCount cs) (everyShows cs N on (among c) l)) (any-held rows k (rowShows (among c) c l))))
 
     -- ---- the cells
-    module _ (num : ℕ → ℕ) (ds : List ℕ) where
+    module _ (marks : Bool) (num : ℕ → ℕ) (ds : List ℕ) where
       -- the test of a cell by the arrays is that by the rows, where k is m
       pub cell-told : (m : ℕ) → k ≡ m → (c : ℕ)
-          → gatheredOn num above own shown against ds k c ≡ cellFine cs a num N (rowsHeld rows m) ds m c
-      cell-told m e c = subst (λ m. gatheredOn num above own shown against ds k c ≡ cellFine cs a num N (rowsHeld rows m) ds m c) e
-          (ap (λ M. ltb 0 c ⇒ citedIn num M (byteAt ds (1 + k + c))) (known-gathered c))
+          → gatheredOn marks a num above own shown against ds k c ≡ cellFine marks cs a num N (rowsHeld rows m) ds m c
+      cell-told m e c =
+          subst (λ m. gatheredOn marks a num above own shown against ds k c ≡ cellFine marks cs a num N (rowsHeld rows m) ds m c) e
+          (ap₂ (λ r M. ltb 0 c ⇒ cellFits num (answerWith (compatibleBy a r) M) (cellOf marks (byteAt ds (1 + k + c))))
+          (setOf-cong 16 _ _ (λ t _. roles-gathered c t)) (known-gathered c))

@@ -1,12 +1,13 @@
 -- What each row of a step gives to the cells, found once for the step and held in four arrays of six; 0 stands behind the last row.
-use Prim.Native.Nat.{ℕ, zero, suc, _+_, _%_, _^_, _≤_, _<_}
-use mathlib.Core.Path.{_≡_, refl, sym, _∙_, ap, subst, fun-ext}
+use Prim.Native.Nat.{ℕ, zero, suc, _+_, _%_, _≤_, _<_}
+use mathlib.Core.Path.{_≡_, refl, sym, _∙_, ap, ap₂, subst, fun-ext}
 use mathlib.Core.Logic.{inl, inr}
-use mathlib.Core.Bool.{Bool, true, false, cond, _&&_, _||_}
+use mathlib.Core.Bool.{Bool, true, false, cond, not, _&&_, _||_, false≢true}
+use mathlib.Core.Option.{Option, none, some}
 use mathlib.Core.List.{List}
 use native.Mathlib.Omega.{arith}
 use native.Mathlib.Decide.{decLt}
-use borrow.Author.Tests.{lt-ltb, le-ltb, ne-eqb}
+use borrow.Author.Tests.{lt-ltb, le-ltb}
 use lib.Dec.{eqb, ltb}
 use lib.ListN.{length, getD, set, replicate, length-set}
 use lib.Seq.{getD-set-same, getD-set-other}
@@ -14,7 +15,7 @@ use Rattle.logic.specs.Tests.{So, _⇒_, decide, and-l, and-r, or-cases, same-t
 use Rattle.logic.specs.Bounded.{allBelow, anyBelow, any-elim}
 use Rattle.logic.specs.Sums.{only}
 use Rattle.logic.specs.Sets.{has, within, setOf}
-use Rattle.logic.specs.SetLaws.{no-member, has-none, set-ext}
+use Rattle.logic.specs.SetLaws.{no-member, has-none, has-lt, set-ext, setOf↔}
 use Rattle.parts.specs.Numbers.{byteAt}
 use Rattle.labels.specs.Labels.{labelWith, valueOf, noLabel}
 use Rattle.labels.specs.declared.Label.{Label}
@@ -29,12 +30,16 @@ use Rattle.tables.specs.declared.RoleNo.{RoleNo}
 use Rattle.tables.specs.Tables.{entryCount}
 use Rattle.fillers.specs.FillerSteps.{carried}
 use Rattle.refutation.specs.Cells.{Row}
-use Rattle.refutation.specs.RecordTests.{ifCited}
-use Rattle.list_form.specs.ListForm.{cellOf}
+use Rattle.refutation.specs.Records.{unshown, cited, barred}
+use Rattle.refutation.specs.RecordTests.{Answer, byRoles, knows, cellFits}
+use Rattle.roles.specs.Disjoint.{roleBit, compatibleBy}
+use Rattle.list_form.specs.ListForm.{cellOf, isMark}
 use Rattle.cell_walk.specs.Walks.{rolesIn}
 use Rattle.rows.specs.declared.Row as Held
 use Rattle.rows.specs.HeldRows.{given, heldAt, firstAt, first-held}
-use Rattle.list_cells.specs.CellSteps.{room, everyShows, carriedAt, passes, inRoom, Puts}
+use Rattle.list_cells.specs.CellSteps.{room, everyShows, carriedAt, passes, answerWith, inRoom, Puts}
+use Rattle.list_cells.specs.declared.CellAnswer.{CellAnswer}
+use Rattle.list_cells.specs.declared.CellAnswer.the-variants.{Barred, Knows}
 use Rattle.list_cells.specs.CellLaws.{puts-nothing, puts-more, put-set, isEvery↔, everyOf, every-read}
 
 -- ---- arrays of six
@@ -60,12 +65,12 @@ Labels = SixOf valueOf noLabel
 abbrev pub onlyIf : Bool → ℕ → ℕ
 onlyIf = only
 
--- the roles above its own, by the masks a of the roles, and the mask of its own, if that fits
+-- the roles above its own, by the masks a of the roles, and the mask of its own
 abbrev pub aboveOf : List ℕ → Row → ℕ
 aboveOf a R = getD a (R .role % 16) 0
 
 abbrev pub bitOf : Row → ℕ
-bitOf R = only (ltb (R .role) 16) (2 ^ R .role)
+bitOf R = roleBit (R .role)
 
 -- it shows l of its own cells: its qualifier, or what an entry shows by its role alone
 abbrev pub showsOwn : List ℕ → List ℕ → ℕ → (ℕ → Bool) → Row → ℕ → Bool
@@ -97,34 +102,75 @@ gatheredBy among own shown against c = setOf room (λ l. eqb 0 l || anyBelow 6 (
 abbrev pub gathered : List ℕ → List ℕ → List Label → List ℕ → ℕ → ℕ
 gathered above own shown against c = gatheredBy (rolesIn above c) own shown against c
 
--- the record that the byte b cites, if one, has its label within M; num j is the label of record j
-abbrev pub citedIn : (ℕ → ℕ) → ℕ → ℕ → Bool
-citedIn num M b = ifCited (λ j. within (num j) M) (cellOf b)
+-- the answer for a cell with the roles r, and what an answer of the code stands for
+abbrev pub answerBy : List ℕ → ℕ → List ℕ → List Label → List ℕ → ℕ → Answer
+answerBy a r own shown against c = answerWith (compatibleBy a r) (gatheredBy (has r) own shown against c)
 
--- test 18 of cell c of the step ds; the byte of cell 1 stands behind the k row literals
-abbrev pub gatheredOn : (ℕ → ℕ) → List ℕ → List ℕ → List Label → List ℕ → List ℕ → ℕ → ℕ → Bool
-gatheredOn num above own shown against ds k c = ltb 0 c ⇒ citedIn num (gathered above own shown against c) (byteAt ds (1 + k + c))
+abbrev pub answerOf : CellAnswer → Answer
+answerOf Barred = byRoles
+answerOf (Knows x) = knows (valueOf x)
 
-module _ (num : ℕ → ℕ) (above own : List ℕ) (shown : List Label) (against ds : List ℕ) (k : ℕ) where
+-- the byte that each asks of its cell: 254 if its roles bar it; of another cell the byte is 255 or a cite
+abbrev pub markOf : CellAnswer → Option ℕ
+markOf Barred = some 254
+markOf (Knows x) = none
+
+-- test 18 of cell c of the step ds, by the answer that the arrays give; the byte of cell 1 stands behind the k row literals
+abbrev pub gatheredOn : Bool → List ℕ → (ℕ → ℕ) → List ℕ → List ℕ → List Label → List ℕ → List ℕ → ℕ → ℕ → Bool
+gatheredOn marks a num above own shown against ds k c = ltb 0 c
+    ⇒ cellFits num (answerWith (compatibleBy a (setOf 16 (rolesIn above c))) (gathered above own shown against c))
+    (cellOf marks (byteAt ds (1 + k + c)))
+
+-- a mask has no roles but those below 16
+mask-is : (r : ℕ) (f : ℕ → Bool) → r < 65536 → ((t : ℕ) → has r t ≡ f t) → r ≡ setOf 16 f
+mask-is r f h e = set-ext r (setOf 16 f) (λ t u. setOf↔ 16 f t .1 (has-lt 16 r t h u, sym (e t) ∙ u)) (λ t u. e t ∙ setOf↔ 16 f t .0 u .1)
+
+module _ (marks : Bool) (a : List ℕ) (num : ℕ → ℕ) (above own : List ℕ) (shown : List Label) (against ds : List ℕ) (k : ℕ) where
   -- cell 0 is none
-  pub no-cell : allBelow 1 (gatheredOn num above own shown against ds k) ≡ true
+  pub no-cell : allBelow 1 (gatheredOn marks a num above own shown against ds k) ≡ true
   unfolding allBelow
   no-cell = refl
 
   -- the roles r of cell c are those that its rows give
-  pub cell-at : (c b r : ℕ) (fine : Bool) → 1 ≤ c → b ≡ byteAt ds (1 + k + c) → ((t : ℕ) → has r t ≡ rolesIn above c t)
-      → fine ≡ citedIn num (gatheredBy (has r) own shown against c) b → fine ≡ gatheredOn num above own shown against ds k c
-  cell-at c b r fine h e roles q = rw (lt-ltb 0 c h, ← e)
-      (q ∙ ap (λ (m : ℕ → Bool). citedIn num (gatheredBy m own shown against c) b) (fun-ext roles))
+  pub cell-at : (c b r : ℕ) (fine : Bool) → 1 ≤ c → b ≡ byteAt ds (1 + k + c) → r < 65536 → ((t : ℕ) → has r t ≡ rolesIn above c t)
+      → fine ≡ cellFits num (answerBy a r own shown against c) (cellOf marks b)
+      → fine ≡ gatheredOn marks a num above own shown against ds k c
+  cell-at c b r fine h e few roles q = rw (lt-ltb 0 c h, ← e) (q ∙ ap₂
+      (λ x (m : ℕ → Bool). cellFits num (answerWith (compatibleBy a x) (gatheredBy m own shown against c)) (cellOf marks b))
+      (mask-is r (rolesIn above c) few roles) (fun-ext roles))
 
-module _ (num : ℕ → ℕ) (M b : ℕ) where
-  pub cell-open : b ≡ 255 → true ≡ citedIn num M b
-  unfolding ifCited
-  cell-open e = rw e refl
+-- ---- laws for the test of a cell's byte b
+module _ (marks : Bool) (num : ℕ → ℕ) (b : ℕ) (o : Bool) (m : o ≡ isMark marks b) where
+  -- a mark says whether the roles are barred
+  pub by-mark : (free : Bool) (M : ℕ) → o ≡ true → cond (eqb b 255) free (not free) ≡ cellFits num (answerWith free M) (cellOf marks b)
+  unfolding cellFits
+  by-mark free M e = go (eqb b 255) (marks && eqb b 254) free (sym m ∙ e)
+    where
+      go : (x y f : Bool) → (x || y) ≡ true
+          → cond x f (not f) ≡ cellFits num (answerWith f M) (cond x unshown (cond y barred (cited b)))
+      go true y true h = refl
+      go true y false h = refl
+      go false true true h = refl
+      go false true false h = refl
+      go false false f h = absurd (false≢true h)
 
-  pub cell-cited : (x y : ℕ) → (b ≡ 255 → ⊥) → x ≡ num b → y ≡ M → within x y ≡ citedIn num M b
-  unfolding ifCited
-  cell-cited x y e p q = rw (ne-eqb b 255 e, p, q) refl
+  -- and a cite is asked for in what is known
+  cites : o ≡ false → cellOf marks b ≡ cited b
+  cites e = go (eqb b 255) (marks && eqb b 254) (sym m ∙ e)
+    where
+      go : (x y : Bool) → (x || y) ≡ false → cond x unshown (cond y barred (cited b)) ≡ cited b
+      go true y h = absurd (false≢true (sym h))
+      go false true h = absurd (false≢true (sym h))
+      go false false h = refl
+
+  module _ (e : o ≡ false) (x : CellAnswer) (A : Answer) (q : answerOf x ≡ A) where
+    pub by-none : x ≡ Barred → false ≡ cellFits num A (cellOf marks b)
+    unfolding cellFits
+    by-none h = rw (cites e, ← q, h) refl
+
+    pub by-cite : (y : Label) (N : ℕ) → x ≡ Knows y → N ≡ num b → within N (valueOf y) ≡ cellFits num A (cellOf marks b)
+    unfolding cellFits
+    by-cite y N h p = rw (cites e, ← q, h, p) refl
 
 -- what a row shows of its own cells, put into a label
 pub shown-is : (cs a : List ℕ) (N : ℕ) (on : ℕ → Bool) (R : Held.Row) (T Q : ℕ) → T ≡ labelWith 0 (R .qualifier)
@@ -256,8 +302,8 @@ put-told N M b d p e h = subst (λ b. Puts N M (λ l. b && p l)) e h
 -- by an entry: x is the concept that is read
 module _ (cs a : List ℕ) (N : ℕ) (above : List ℕ) (f : ℕ) (old : List Label) (x v : Concept) (e : x ≡ conceptAt cs f) (q : x ≡ v) where
   pub grown-other : length old ≡ 6 → ((t : ℕ → ℕ → Bool) → everyOf t v ≡ false) → Grown old old (entryShows cs a N above f)
-  grown-other s none = grown-nothing old (entryShows cs a N above f) s
-      (λ i l. sym (every-read cs f x v e q (λ t k. passes N (carriedAt cs a N f) (has (maskAt above i) t) f k l)) ∙ none _)
+  grown-other s no-every = grown-nothing old (entryShows cs a N above f) s
+      (λ i l. sym (every-read cs f x v e q (λ t k. passes N (carriedAt cs a N f) (has (maskAt above i) t) f k l)) ∙ no-every _)
 
   pub grown-every : (new : List Label) (t : RoleNo) (l M : ℕ) → v ≡ Every t l → Puts 0 M (passes N (carried cs a N (t .0) l) true f l)
       → Grown old new (λ i m. has (maskAt above i) (t .0) && has M m) → Grown old new (entryShows cs a N above f)

@@ -1,7 +1,9 @@
-// Test 18 of a counting step: what every filler of a cell has, and that the record cited for the cell has no more.
+// Test 18 of a counting step: whether the roles of a cell bar it; if not, what every filler of it has, and that the record cited for it has
+// no more.
 ghost use mathlib.Core.Path.{_≡_};
-ghost use mathlib.Core.Bool.{_&&_, cond, true, false};
+ghost use mathlib.Core.Bool.{_&&_, cond, not, true, false};
 ghost use mathlib.Core.List.{List};
+ghost use mathlib.Core.Option.{none, some};
 ghost use Prim.Native.Nat.{ℕ, _+_, _%_, _<_, _≤_};
 ghost use lib.Dec.{eqb};
 ghost use lib.ListN.{length, getD};
@@ -12,9 +14,12 @@ ghost use Rattle.labels.specs.Labels.{mostEntries, valueOf, labelWith};
 ghost use Rattle.tables.specs.Concepts.{fieldsStruct};
 ghost use Rattle.evidence.specs.Evidence.{labelOf};
 ghost use Rattle.rows.specs.HeldRows.{given, heldAt, rowsHeld};
+ghost use Rattle.roles.specs.Disjoint.{compatibleBy};
 ghost use Rattle.fillers.specs.FillerSteps.{hasAbove};
+ghost use Rattle.refutation.specs.RecordTests.{cellFits};
+ghost use Rattle.list_form.specs.ListForm.{cellOf};
 ghost use Rattle.list_cells.specs.CellSteps.{Puts, passes, carriedAt, cellFine, cellsCode};
-ghost use Rattle.list_cells.specs.CellRows.{onlyIf, Masks, Labels, maskAt, Grown, gatheredBy, citedIn};
+ghost use Rattle.list_cells.specs.CellRows.{onlyIf, Masks, Labels, maskAt, Grown, gatheredBy, answerBy, answerOf, markOf};
 ghost use Rattle.list_cells.specs.CellRows.{entryShows, shownBy, deniedBy, bitOf, aboveOf};
 ghost use Rattle.cell_walk.specs.Walks.{Tally};
 use cell_walk::cell_roles;
@@ -29,9 +34,13 @@ use labels::join;
 use labels::lies_within;
 use labels::only;
 use labels::put;
+use list_form::is_mark;
 use nodes::opposite;
 use parts::byte;
 use parts::up_to;
+use roles::disjoint::compatible;
+use roles::disjoint::no_records;
+use roles::disjoint::role_bit;
 use roles::has16;
 use rows::Row;
 use rows::cell_count;
@@ -64,7 +73,7 @@ fn mask(x: u16) -> u16
 }
 
 // What a row gives to the cells, if it is `there`: the ancestors of its role,
-fn above_by(m: &[u16; 32], row: Row, there: bool) -> u16
+fn above_by(m: &[u16; 49], row: Row, there: bool) -> u16
     ensures { λ r. ⌜ (r ≡ onlyIf there (aboveOf (now (m .entry)) (given row))) × (r < 65536) ⌝ }
 {
     if there {
@@ -78,11 +87,7 @@ fn above_by(m: &[u16; 32], row: Row, there: bool) -> u16
 fn own_by(row: Row, there: bool) -> u16
     ensures { λ r. ⌜ r ≡ onlyIf there (bitOf (given row)) ⌝ }
 {
-    let r = row.role.0;
-    if !there {
-        return 0;
-    }
-    if r < 16 { 1 << r } else { 0 }
+    if there { role_bit(row.role.0) } else { 0 }
 }
 
 // the opposite of its qualifier,
@@ -101,7 +106,7 @@ fn qualified_by(row: Row, there: bool) -> Label
 
 // The ancestors of the role of each of the first `k` rows. These loops go to 6 and not to `k`: so known a number is unrolled,
 // and the array lies in no memory of its own.
-fn above_of(m: &[u16; 32], rows: [Row; 6], k: u8) -> [u16; 6]
+fn above_of(m: &[u16; 49], rows: [Row; 6], k: u8) -> [u16; 6]
     requires { ⌜ k ≤ 6 ⌝ }
     ensures { λ r. ⌜ Masks (λ i. aboveOf (now (m .entry)) (given (heldAt rows i))) k r × ((i : ℕ) → i < 6 → maskAt r i < 65536) ⌝ }
 {
@@ -213,7 +218,7 @@ fn with_every(
 // The entries are walked once, not once a row; for each "every" of a transitive role once more (`is_carried`).
 fn shown_of(
     cs: &[u8],
-    m: &[u16; 32],
+    m: &[u16; 49],
     x: Label,
     rows: [Row; 6],
     k: u8,
@@ -275,9 +280,52 @@ fn known_label(roles: u16, own: [u16; 6], shown: [Label; 6], against: [u8; 6], c
     out
 }
 
-// Test 18 of cell `c`, which has these roles and the byte `cell`.
+// Whether one pair may have the roles; without records, as most descriptions are, that is told at once.
+fn may_have(m: &[u16; 49], roles: u16) -> bool
+    ensures { λ r. ⌜ r ≡ compatibleBy (now (m .entry)) roles ⌝ }
+{
+    if no_records(m) {
+        return true;
+    }
+    compatible(m, roles)
+}
+
+// The answer for one cell: barred by its roles, or what every filler of it has.
+pub enum CellAnswer {
+    Barred,
+    Knows(Label),
+}
+
+// That for cell `c`, which has these roles.
+fn cell_answer(
+    m: &[u16; 49],
+    roles: u16,
+    own: [u16; 6],
+    shown: [Label; 6],
+    against: [u8; 6],
+    c: u8,
+) -> CellAnswer
+    ensures { λ r. ⌜ (answerOf r ≡ answerBy (now (m .entry)) roles own shown against c)
+        × (markOf r ≡ cond (compatibleBy (now (m .entry)) roles) none (some 254)) ⌝ }
+{
+    if may_have(m, roles) {
+        return CellAnswer::Knows(known_label(roles, own, shown, against, c));
+    }
+    CellAnswer::Barred
+}
+
+// Test 18 of a cell whose byte `cell` is a mark: it is open if one pair may have the roles, and barred if not.
+fn mark_ok(m: &[u16; 49], roles: u16, cell: u8) -> bool
+    ensures { λ r. ⌜ r ≡ cond (eqb cell 255) (compatibleBy (now (m .entry)) roles) (not (compatibleBy (now (m .entry)) roles)) ⌝ }
+{
+    let free = may_have(m, roles);
+    if cell == 255 { free } else { !free }
+}
+
+// Test 18 of cell `c`, which has these roles and the byte `cell`. What is known of a cell is found only if a record shows it empty.
 fn cell_ok(
     s: &[u8],
+    m: &[u16; 49],
     roles: u16,
     own: [u16; 6],
     shown: [Label; 6],
@@ -286,15 +334,19 @@ fn cell_ok(
     cell: u8,
     f: Layout,
 ) -> bool
-    ensures { λ r. ⌜ r ≡ citedIn (labelOf f (now (s .entry))) (gatheredBy (has roles) own shown against c) cell ⌝ }
+    ensures { λ r. ⌜ r ≡ cellFits (labelOf f (now (s .entry))) (answerBy (now (m .entry)) roles own shown against c)
+        (cellOf (f .marks) cell) ⌝ }
 {
-    if cell == 255 {
-        return true;
+    if is_mark(cell, f.marks) {
+        return mark_ok(m, roles, cell);
     }
-    lies_within(
-        record_label(s, cell, f),
-        known_label(roles, own, shown, against, c),
-    )
+    // The cited label first, so that what is known need not be kept while it is read.
+    let shut_by = record_label(s, cell, f);
+    let answer = cell_answer(m, roles, own, shown, against, c);
+    let CellAnswer::Knows(known) = answer else {
+        return false;
+    };
+    lies_within(shut_by, known)
 }
 
 // What a walk over cells found: whether all were fine, the cell that it came to, and how many rows came in or went out on the way.
@@ -315,10 +367,10 @@ fn ended_at(c: u8, n: u8) -> Walk
     }
 }
 
-// Test 18, cell by cell, up to the first that fails. The roles are carried from each cell to the next, whether it cites a record or not.
+// Test 18, cell by cell, up to the first that fails. The roles are carried from each cell to the next.
 fn walk_cells(
     cs: &[u8],
-    m: &[u16; 32],
+    m: &[u16; 49],
     s: &[u8],
     x: Label,
     rows: [Row; 6],
@@ -326,7 +378,7 @@ fn walk_cells(
     ds: &[u8],
     f: Layout,
 ) -> Walk
-    ensures { λ r. ⌜ Tally (upTo 6 k) (cellFine (now (cs .entry)) (now (m .entry)) (labelOf f (now (s .entry))) (valueOf x)
+    ensures { λ r. ⌜ Tally (upTo 6 k) (cellFine (f .marks) (now (cs .entry)) (now (m .entry)) (labelOf f (now (s .entry))) (valueOf x)
         (rowsHeld rows (upTo 6 k)) (now (ds .entry)) (upTo 6 k)) (r .fine) (r .cells) (r .changes) ⌝ }
 {
     let n = up_to(6, k as usize);
@@ -339,11 +391,12 @@ fn walk_cells(
     let mut from: [u16; 7] = [0; 7];
     let mut cells: u8 = 0;
     let mut changes: u8 = 0;
-    while cells + 1 < end {
+    // By `!=`: of a number of cells that is a power of two the compiler makes a shift for each `<`.
+    while cells + 1 != end {
         changes += next_cell(&mut from, &above, cells);
         cells += 1;
         let cell = byte(ds, (1 + n + cells) as usize);
-        if !cell_ok(s, cell_roles(&from), own, shown, against, cells, cell, f) {
+        if !cell_ok(s, m, cell_roles(&from), own, shown, against, cells, cell, f) {
             return ended_at(cells, changes);
         }
     }
@@ -354,10 +407,11 @@ fn walk_cells(
     }
 }
 
-// Test 18: each cell that cites a record has the record's label within its known label.
+// Test 18: a cell is marked as barred exactly if its roles bar it, and one that cites a record has the record's label within its known
+// label.
 pub fn cells_ok(
     cs: &[u8],
-    m: &[u16; 32],
+    m: &[u16; 49],
     s: &[u8],
     x: Label,
     rows: [Row; 6],
@@ -365,7 +419,8 @@ pub fn cells_ok(
     ds: &[u8],
     f: Layout,
 ) -> bool
-    ensures { λ r. ⌜ r ≡ cellsCode (now (cs .entry)) (now (m .entry)) (labelOf f (now (s .entry))) (valueOf x) (rowsHeld rows (upTo 6 k)) (now (ds .entry)) (upTo 6 k) ⌝ }
+    ensures { λ r. ⌜ r ≡ cellsCode (f .marks) (now (cs .entry)) (now (m .entry)) (labelOf f (now (s .entry))) (valueOf x)
+        (rowsHeld rows (upTo 6 k)) (now (ds .entry)) (upTo 6 k) ⌝ }
 {
     let found = walk_cells(cs, m, s, x, rows, k, ds, f);
     found.fine

@@ -5,13 +5,12 @@ ghost use mathlib.Core.Option.{none};
 ghost use Prim.Native.Nat.{_≤_};
 ghost use Rattle.logic.specs.Refusals.{refuse, refuseFrom};
 ghost use Rattle.description.specs.Literals.{literal};
-ghost use Rattle.tables.specs.Tables.{describe};
 ghost use Rattle.labels.specs.Labels.{valueOf};
 ghost use Rattle.evidence.specs.Evidence.{labelOf, edgesPart};
 ghost use Rattle.refutation.specs.Cells.{rowsOf};
 ghost use Rattle.answers.specs.Answers.{refusalOf};
 ghost use Rattle.list_form.specs.ListForm.{bytesAt};
-ghost use Rattle.rows.specs.HeldRows.{rowsHeld};
+ghost use Rattle.rows.specs.HeldRows.{withoutRoles, rowsHeld};
 ghost use Rattle.list_check.specs.CheckSteps.{formCode, formOf, countCode, stepCode, recordCode, endCode, recordsCode, listCode};
 use answers::Tested;
 use cites::within_one;
@@ -32,14 +31,14 @@ use rows::rows_of;
 
 // Test 10 of record `i`.
 fn form_ok(s: &[u8], i: u8, f: Layout) -> bool
-    ensures { λ r. ⌜ r ≡ formCode (edgesPart f (now (s .entry))) i ⌝ }
+    ensures { λ r. ⌜ r ≡ formCode (f .marks) (edgesPart f (now (s .entry))) i ⌝ }
 {
     step_form(record_edges(s, i, f))
 }
 
 // Test 10 of the `n` records.
 fn test_forms(s: &[u8], n: u8, f: Layout) -> Tested
-    ensures { λ r. ⌜ refusalOf r ≡ refuseFrom (formOf (edgesPart f (now (s .entry)))) n 0 none ⌝ }
+    ensures { λ r. ⌜ refusalOf r ≡ refuseFrom (formOf (f .marks) (edgesPart f (now (s .entry)))) n 0 none ⌝ }
 {
     let mut i: u8 = 0;
     while i < n {
@@ -53,7 +52,7 @@ fn test_forms(s: &[u8], n: u8, f: Layout) -> Tested
 
 // Tests 18 and 19 of the counting step `ds` of record `i` with the label `x`, whose `k` rows are `rows`.
 fn test_held(
-    m: &[u16; 32],
+    m: &[u16; 49],
     cs: &[u8],
     s: &[u8],
     i: u8,
@@ -63,8 +62,9 @@ fn test_held(
     rows: [Row; 6],
     f: Layout,
 ) -> Tested
-    requires { ⌜ (k ≤ 6) × (rowsHeld rows k ≡ rowsOf (describe [] (now cs) []) (bytesAt literal (now ds) 2 k)) ⌝ }
-    ensures { λ r. ⌜ refusalOf r ≡ refuse i (countCode (now (m .entry)) (now (cs .entry)) (labelOf f (now (s .entry))) (valueOf x) (now (ds .entry)) k) none ⌝ }
+    requires { ⌜ (k ≤ 6) × (rowsHeld rows k ≡ rowsOf (withoutRoles (now cs) []) (bytesAt literal (now ds) 2 k)) ⌝ }
+    ensures { λ r. ⌜ refusalOf r ≡ refuse i (countCode (f .marks) (now (m .entry)) (now (cs .entry)) (labelOf f (now (s .entry)))
+        (valueOf x) (now (ds .entry)) k) none ⌝ }
 {
     if !cells_ok(cs, m, s, x, rows, k, ds, f) {
         return Tested::Refused(18, i);
@@ -77,7 +77,7 @@ fn test_held(
 
 // The same with the rows read.
 fn test_count(
-    m: &[u16; 32],
+    m: &[u16; 49],
     cs: &[u8],
     s: &[u8],
     i: u8,
@@ -87,14 +87,15 @@ fn test_count(
     f: Layout,
 ) -> Tested
     requires { ⌜ k ≤ 6 ⌝ }
-    ensures { λ r. ⌜ refusalOf r ≡ refuse i (countCode (now (m .entry)) (now (cs .entry)) (labelOf f (now (s .entry))) (valueOf x) (now (ds .entry)) k) none ⌝ }
+    ensures { λ r. ⌜ refusalOf r ≡ refuse i (countCode (f .marks) (now (m .entry)) (now (cs .entry)) (labelOf f (now (s .entry)))
+        (valueOf x) (now (ds .entry)) k) none ⌝ }
 {
     test_held(m, cs, s, i, x, ds, k, rows_of(cs, ds, k), f)
 }
 
 // Tests 10 and 16 to 19 of record `i` with the label `x` and the step `ds`.
 fn test_labelled(
-    m: &[u16; 32],
+    m: &[u16; 49],
     cs: &[u8],
     qs: &[u8],
     s: &[u8],
@@ -103,7 +104,8 @@ fn test_labelled(
     ds: &[u8],
     f: Layout,
 ) -> Tested
-    ensures { λ r. ⌜ refusalOf r ≡ refuse i (stepCode (now (m .entry)) (now (cs .entry)) (now (qs .entry)) (labelOf f (now (s .entry))) i (valueOf x) (now (ds .entry))) none ⌝ }
+    ensures { λ r. ⌜ refusalOf r ≡ refuse i (stepCode (f .marks) (now (m .entry)) (now (cs .entry)) (now (qs .entry))
+        (labelOf f (now (s .entry))) i (valueOf x) (now (ds .entry))) none ⌝ }
 {
     let t = test_step(cs, qs, s, i, x, ds, f);
     let Tested::Fine = t else {
@@ -116,8 +118,9 @@ fn test_labelled(
 }
 
 // Tests 10 and 16 to 19 of record `i`.
-fn test_record(m: &[u16; 32], cs: &[u8], qs: &[u8], s: &[u8], i: u8, f: Layout) -> Tested
-    ensures { λ r. ⌜ refusalOf r ≡ refuse i (recordCode (now (m .entry)) (now (cs .entry)) (now (qs .entry)) (labelOf f (now (s .entry))) (edgesPart f (now (s .entry))) i) none ⌝ }
+fn test_record(m: &[u16; 49], cs: &[u8], qs: &[u8], s: &[u8], i: u8, f: Layout) -> Tested
+    ensures { λ r. ⌜ refusalOf r ≡ refuse i (recordCode (f .marks) (now (m .entry)) (now (cs .entry)) (now (qs .entry))
+        (labelOf f (now (s .entry))) (edgesPart f (now (s .entry))) i) none ⌝ }
 {
     test_labelled(
         m,
@@ -132,8 +135,9 @@ fn test_record(m: &[u16; 32], cs: &[u8], qs: &[u8], s: &[u8], i: u8, f: Layout) 
 }
 
 // Tests 10 and 16 to 19 of the `n` records, rising.
-fn test_records(m: &[u16; 32], cs: &[u8], qs: &[u8], s: &[u8], n: u8, f: Layout) -> Tested
-    ensures { λ r. ⌜ refusalOf r ≡ refuseFrom (recordCode (now (m .entry)) (now (cs .entry)) (now (qs .entry)) (labelOf f (now (s .entry))) (edgesPart f (now (s .entry)))) n 0 none ⌝ }
+fn test_records(m: &[u16; 49], cs: &[u8], qs: &[u8], s: &[u8], n: u8, f: Layout) -> Tested
+    ensures { λ r. ⌜ refusalOf r ≡ refuseFrom (recordCode (f .marks) (now (m .entry)) (now (cs .entry)) (now (qs .entry))
+        (labelOf f (now (s .entry))) (edgesPart f (now (s .entry)))) n 0 none ⌝ }
 {
     let mut i: u8 = 0;
     while i < n {
@@ -157,9 +161,10 @@ fn test_end(want: Label, s: &[u8], last: u8, f: Layout) -> Tested
 }
 
 // Tests 10 and 16 to 20 of the `n` records.
-fn test_all(m: &[u16; 32], cs: &[u8], qs: &[u8], want: Label, s: &[u8], n: u8, f: Layout) -> Tested
+fn test_all(m: &[u16; 49], cs: &[u8], qs: &[u8], want: Label, s: &[u8], n: u8, f: Layout) -> Tested
     requires { ⌜ 1 ≤ n ⌝ }
-    ensures { λ r. ⌜ refusalOf r ≡ recordsCode (now (m .entry)) (now (cs .entry)) (now (qs .entry)) (valueOf want) (labelOf f (now (s .entry))) (edgesPart f (now (s .entry))) n ⌝ }
+    ensures { λ r. ⌜ refusalOf r ≡ recordsCode (f .marks) (now (m .entry)) (now (cs .entry)) (now (qs .entry)) (valueOf want)
+        (labelOf f (now (s .entry))) (edgesPart f (now (s .entry))) n ⌝ }
 {
     let t = test_forms(s, n, f);
     let Tested::Fine = t else {
@@ -172,13 +177,14 @@ fn test_all(m: &[u16; 32], cs: &[u8], qs: &[u8], want: Label, s: &[u8], n: u8, f
     test_end(want, s, n - 1, f)
 }
 
-// Tests 9, 10 and 16 to 20 of the list `s`, which is to end within literal 0 and `want`, with the masks of the roles.
-pub fn test_list(m: &[u16; 32], cs: &[u8], qs: &[u8], want: Label, s: &[u8]) -> Tested
-    ensures { λ r. ⌜ refusalOf r ≡ listCode (now (m .entry)) (now (cs .entry)) (now (qs .entry)) (valueOf want) (now (s .entry)) ⌝ }
+// Tests 9, 10 and 16 to 20 of the list `s`, which is to end within literal 0 and `want`, with the masks of the roles. With four pairs it
+// `marks` barred cells.
+pub fn test_list(m: &[u16; 49], cs: &[u8], qs: &[u8], want: Label, s: &[u8], marks: bool) -> Tested
+    ensures { λ r. ⌜ refusalOf r ≡ listCode marks (now (m .entry)) (now (cs .entry)) (now (qs .entry)) (valueOf want) (now (s .entry)) ⌝ }
 {
     let head = read_head(s);
     match head {
-        Head::RefutationOf(n) => test_all(m, cs, qs, want, s, n, layout_of(cs)),
+        Head::RefutationOf(n) => test_all(m, cs, qs, want, s, n, layout_of(cs, marks)),
         Head::GraphOf(_) => Tested::Refused(9, 0),
         Head::Off => Tested::Refused(9, 0),
     }

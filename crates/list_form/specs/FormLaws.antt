@@ -12,7 +12,7 @@ use Rattle.logic.specs.Tests.{So, so-and, and-l, and-r, so-leb, leb-so, eqb-so,
 use Rattle.logic.specs.Lists.{length-tabulate}
 use Rattle.logic.specs.Refusals.{unless}
 use Rattle.parts.specs.Numbers.{byteAt, num2}
-use Rattle.counting.specs.Trees.{leaf, split, formed, depth}
+use Rattle.counting.specs.Trees.{split, formed, depth}
 use Rattle.description.specs.Literals.{literal}
 use Rattle.refutation.specs.Records.{Counting, Step, counting}
 use Rattle.refutation.specs.RecordTests.{storedRefutation, formTest, recordForm, whenCounting}
@@ -68,7 +68,7 @@ module _ (ds : List ℕ) where
       go ih Off q = absurd (Option·none-ne-some t q)
 
 -- ---- 10 on bytes is 10 of the step
-module _ (ds : List ℕ) where
+module _ (marks : Bool) (ds : List ℕ) where
   -- where something is given, its test has passed
   given-some : {A : Type 0} (b : Bool) (x y : A) → given b x ≡ some y → So b × (x ≡ y)
   given-some true x y e = (refl, Option·some-injective x y e)
@@ -76,18 +76,18 @@ module _ (ds : List ℕ) where
 
   -- a counting step that was read
   made : ℕ → Placed → Counting
-  made k t = record { rows = bytesAt literal ds 2 k; cells = bytesAt cellOf ds (2 + k) (2 ^ k - 1); tree = t .tree }
+  made k t = record { rows = bytesAt literal ds 2 k; cells = bytesAt (cellOf marks) ds (2 + k) (2 ^ k - 1); tree = t .tree }
 
   made-fine : (k : ℕ) (t : Placed) → 1 ≤ k → k ≤ 6 → Fine ds mostDepth k t → So (formTest storedRefutation (made k t))
   unfolding made
   made-fine k t h g f = let z : suc (2 ^ k - 1) ≡ 2 ^ k = omega (arith, pow-pos k) in
-      rw (length-tabulate k (λ i. literal (byteAt ds (2 + i))), length-tabulate (2 ^ k - 1) (λ i. cellOf (byteAt ds (2 + k + i))), z)
+      rw (length-tabulate k (λ i. literal (byteAt ds (2 + i))), length-tabulate (2 ^ k - 1) (λ i. cellOf marks (byteAt ds (2 + k + i))), z)
       (so-and _ _ (so-and _ _ (leb-so 1 k h) (so-and _ _ (eqb-so (2 ^ k)) (f .0))) (so-and _ _ (leb-so k 6 g) (leb-so (depth (t .tree)) 8 (f .1))))
 
   passes : (b : Bool) → So b → unless b 10 none ≡ none
   passes b h = rw h refl
 
-  counting-fine : (k : ℕ) (s : Step) → countingIn ds k ≡ some s → recordForm storedRefutation s ≡ none
+  counting-fine : (k : ℕ) (s : Step) → countingIn marks ds k ≡ some s → recordForm storedRefutation s ≡ none
   unfolding countingIn whenCounting made
   counting-fine k s e = go (leb 1 k && (leb k 6 && leb (treeAt k) (length ds))) refl e
     where
@@ -105,7 +105,7 @@ module _ (ds : List ℕ) where
   sized-fine : (n : ℕ) (x s : Step) → recordForm storedRefutation x ≡ none → sized ds n x ≡ some s → recordForm storedRefutation s ≡ none
   sized-fine n x s h e = subst (λ y. recordForm storedRefutation y ≡ none) (given-some (eqb (length ds) n) x s e .1) h
 
-  step-fine : (tag : ℕ) (s : Step) → stepOf ds tag ≡ some s → recordForm storedRefutation s ≡ none
+  step-fine : (tag : ℕ) (s : Step) → stepOf marks ds tag ≡ some s → recordForm storedRefutation s ≡ none
   unfolding stepOf whenCounting
   step-fine zero s e = absurd (Option·none-ne-some s e)
   step-fine (suc zero) s e = sized-fine 2 _ s refl e
@@ -116,5 +116,5 @@ module _ (ds : List ℕ) where
   step-fine (suc (suc (suc (suc (suc (suc zero)))))) s e = counting-fine (byteAt ds 1) s e
   step-fine (suc (suc (suc (suc (suc (suc (suc k))))))) s e = absurd (Option·none-ne-some s e)
 
-  pub form-fine : (s : Step) → stepIn ds ≡ some s → recordForm storedRefutation s ≡ none
+  pub form-fine : (s : Step) → stepIn marks ds ≡ some s → recordForm storedRefutation s ≡ none
   form-fine s e = step-fine (byteAt ds 0) s e

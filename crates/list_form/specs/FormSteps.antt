@@ -1,21 +1,23 @@
 -- The form of a record as the code finds it: where each tree ends, without the tree.
 use Prim.Native.Nat.{ℕ, zero, suc, _+_, _-_, _*_, _%_, _^_, _≤_, _<_}
 use mathlib.Core.Path.{_≡_, refl, sym, _∙_, ap}
-use mathlib.Core.Bool.{Bool, true, false, cond, _&&_}
+use mathlib.Core.Bool.{Bool, true, false, cond, _&&_, _||_, false≢true}
 use mathlib.Core.List.{List}
+use mathlib.Core.Logic.{inl, inr}
 use mathlib.Core.Option.{Option, none, some, Option·none-ne-some}
 use native.Mathlib.Omega.{arith}
+use native.Mathlib.Decide.{decLt}
 use borrow.Author.Tests.{le-leb, lt-leb, lt-ltb, le-ltb, eq-eqb, ne-eqb}
 use lib.Dec.{eqb, leb, ltb}
 use lib.ListN.{length}
 use native.Mathlib.Numerals.{add-one}
 use lib.Pow.{pow-mono, pow-pos}
-use Rattle.logic.specs.Tests.{so-leb}
+use Rattle.logic.specs.Tests.{same-test, or-l, or-r, or-cases, so-eqb, eqb↔, so-leb, leb-so}
 use Rattle.logic.specs.Refusals.{unless}
 use Rattle.logic.specs.SetLaws.{single-word}
 use Rattle.counting.specs.Trees.{Tree, split}
 use Rattle.parts.specs.Numbers.{byteAt, num2}
-use Rattle.list_form.specs.ListForm.{Placed, nodeIn, nodeRefusal, isNode, byNode, leafIn, treeIn, andThen, given, treeAt, mostDepth, countingIn, sized, stepOf, stepIn}
+use Rattle.list_form.specs.ListForm.{Placed, isMark, nodeIn, nodeRefusal, isNode, byNode, leafIn, treeIn, andThen, given, treeAt, mostDepth, countingIn, sized, stepOf, stepIn}
 use Rattle.refutation.specs.Records.{Step}
 use Rattle.list_form.specs.declared.Node.{Node}
 use Rattle.list_form.specs.declared.Node.the-variants.{Leaf, Split, Off}
@@ -33,6 +35,28 @@ formed (some x) = true
 given-formed : {A : Type 0} (b : Bool) (x : A) → b ≡ formed (given b x)
 given-formed true x = refl
 given-formed false x = refl
+
+-- ---- laws for a cell's byte
+-- bytes from the first mark on are marks
+pub mark-from : (marks : Bool) (first b : ℕ) → b < 256 → first ≡ cond marks 254 255 → leb first b ≡ isMark marks b
+mark-from marks first b h e = rw e (go marks)
+  where
+    go : (m : Bool) → leb (cond m 254 255) b ≡ isMark m b
+    go true = same-test _ _
+        (λ u. let k = so-leb 254 b u in elim (decLt b 255) [
+          | yes q ↦ (let z : b ≡ 254 = omega arith in or-r (eqb b 255) (eqb b 254) (eqb↔ b 254 .1 z))
+          | no q ↦ (let z : b ≡ 255 = omega arith in or-l (eqb b 255) (eqb b 254) (eqb↔ b 255 .1 z))
+        ])
+        (λ u. elim (or-cases (eqb b 255) (eqb b 254) u) [
+          | inl v ↦ (let z = so-eqb b 255 v in leb-so 254 b (omega arith))
+          | inr v ↦ (let z = so-eqb b 254 v in leb-so 254 b (omega arith))
+        ])
+    go false = same-test _ _
+        (λ u. let k = so-leb 255 b u in let z : b ≡ 255 = omega arith in or-l (eqb b 255) false (eqb↔ b 255 .1 z))
+        (λ u. elim (or-cases (eqb b 255) false u) [
+          | inl v ↦ (let z = so-eqb b 255 v in leb-so 255 b (omega arith))
+          | inr v ↦ absurd (false≢true v)
+        ])
 
 -- ---- laws for the reader of a node
 -- its case has the number of the case
@@ -176,21 +200,21 @@ module _ (ds : List ℕ) (limits at : ℕ) where
 pub shifted : (k : ℕ) → k ≤ 6 → (1 * 2 ^ k % 2 ^ 64 ≡ 2 ^ k) × (1 ≤ 2 ^ k) × (2 ^ k ≤ 64)
 shifted k h = let z : 2 ^ k ≤ 2 ^ 6 = pow-mono h in (single-word 64 k (omega arith), pow-pos k, omega arith)
 
-module _ (ds : List ℕ) (k : ℕ) where
-  pub rows-none : k < 1 → false ≡ formed (countingIn ds k)
+module _ (marks : Bool) (ds : List ℕ) (k : ℕ) where
+  pub rows-none : k < 1 → false ≡ formed (countingIn marks ds k)
   unfolding countingIn
   rows-none h = rw (lt-leb _ _ h) refl
 
-  pub rows-many : 1 ≤ k → 6 < k → false ≡ formed (countingIn ds k)
+  pub rows-many : 1 ≤ k → 6 < k → false ≡ formed (countingIn marks ds k)
   unfolding countingIn
   rows-many h g = rw (le-leb _ _ h, lt-leb _ _ g) refl
 
-  pub cells-cut : 1 ≤ k → k ≤ 6 → length ds < treeAt k → false ≡ formed (countingIn ds k)
+  pub cells-cut : 1 ≤ k → k ≤ 6 → length ds < treeAt k → false ≡ formed (countingIn marks ds k)
   unfolding countingIn
   cells-cut h g c = rw (le-leb _ _ h, le-leb _ _ g, lt-leb _ _ c) refl
 
   pub tree-told : (start q : ℕ) → 1 ≤ k → k ≤ 6 → start ≡ treeAt k → start ≤ length ds → q ≡ endOf (treeIn ds mostDepth k start)
-      → eqb q (length ds) ≡ formed (countingIn ds k)
+      → eqb q (length ds) ≡ formed (countingIn marks ds k)
   unfolding countingIn
   tree-told start q h g s c e = let d : treeAt k ≤ length ds = omega arith in
       rw (le-leb _ _ h, le-leb _ _ g, le-leb _ _ d) (ap (λ n. eqb n (length ds)) (e ∙ ap (λ at. endOf (treeIn ds mostDepth k at)) s) ∙ go (treeIn ds mostDepth k (treeAt k)) _)
@@ -200,15 +224,16 @@ module _ (ds : List ℕ) (k : ℕ) where
       go (some t) f = given-formed (eqb (t .end) (length ds)) (f t)
 
 -- ---- laws for a step
-module _ (ds : List ℕ) where
-  pub step-size : (tag n : ℕ) (s : Step) → byteAt ds 0 ≡ tag → stepOf ds tag ≡ sized ds n s → eqb (length ds) n ≡ formed (stepIn ds)
-  step-size tag n s e q = given-formed (eqb (length ds) n) s ∙ ap formed (sym (ap (stepOf ds) e ∙ q))
+module _ (marks : Bool) (ds : List ℕ) where
+  pub step-size : (tag n : ℕ) (s : Step) → byteAt ds 0 ≡ tag → stepOf marks ds tag ≡ sized ds n s → eqb (length ds) n ≡ formed (stepIn marks ds)
+  step-size tag n s e q = given-formed (eqb (length ds) n) s ∙ ap formed (sym (ap (stepOf marks ds) e ∙ q))
 
-  pub step-counting : (k : ℕ) → byteAt ds 0 ≡ 6 → k ≡ byteAt ds 1 → formed (countingIn ds k) ≡ formed (stepIn ds)
+  pub step-counting : (k : ℕ) → byteAt ds 0 ≡ 6 → k ≡ byteAt ds 1 → formed (countingIn marks ds k) ≡ formed (stepIn marks ds)
   unfolding stepOf
   step-counting k e p = rw (e, p) refl
 
-  pub step-unknown : (k : ℕ) → k ≡ byteAt ds 0 → (k ≡ 1 → ⊥) → (k ≡ 2 → ⊥) → (k ≡ 3 → ⊥) → (k ≡ 4 → ⊥) → (k ≡ 5 → ⊥) → (k ≡ 6 → ⊥) → false ≡ formed (stepIn ds)
+  pub step-unknown : (k : ℕ) → k ≡ byteAt ds 0 → (k ≡ 1 → ⊥) → (k ≡ 2 → ⊥) → (k ≡ 3 → ⊥) → (k ≡ 4 → ⊥) → (k ≡ 5 → ⊥) → (k ≡ 6 → ⊥)
+      → false ≡ formed (stepIn marks ds)
   unfolding stepOf
   step-unknown zero p h1 h2 h3 h4 h5 h6 = rw (← p) refl
   step-unknown (suc zero) p h1 h2 h3 h4 h5 h6 = absurd (h1 refl)

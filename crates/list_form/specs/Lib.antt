@@ -1,3 +1,4 @@
 pub mod ListForm
 pub mod FormSteps
 pub mod FormLaws
+pub mod Examples

@@ -1,6 +1,6 @@
 -- A refutation's record behind its label: the step that the bytes are, and their form, refusal 10 (01, "Evidence", Closing list, and "The counting step"; FORMAT 5, 6).
 use Prim.Native.Nat.{ℕ, zero, suc, _+_, _-_, _^_}
-use mathlib.Core.Bool.{Bool, true, false, cond, _&&_}
+use mathlib.Core.Bool.{Bool, true, false, cond, _&&_, _||_}
 use mathlib.Core.List.{List}
 use mathlib.Core.Option.{Option, none, some}
 use lib.Dec.{eqb, leb, ltb}
@@ -11,7 +11,7 @@ use Rattle.counting.specs.Trees.{Tree, leaf, split}
 use Rattle.description.specs.Literals.{literal}
 use Rattle.list_form.specs.declared.Node.{Node}
 use Rattle.list_form.specs.declared.Node.the-variants.{Leaf, Split, Off}
-use Rattle.refutation.specs.Records.{Cell, unshown, cited, Step, contradiction, conjunction, disjunction, byRule, caseSplit, counting}
+use Rattle.refutation.specs.Records.{Cell, unshown, cited, barred, Step, contradiction, conjunction, disjunction, byRule, caseSplit, counting}
 
 -- what follows, where there is something
 abbrev pub andThen : {A B : Type 0} → Option A → (A → Option B) → Option B
@@ -68,34 +68,43 @@ treeIn ds (suc left) limits at = byNode (leafIn ds limits at) (
 abbrev pub mostDepth : ℕ
 mostDepth = 8
 
--- 255 is the open mark
-abbrev pub cellOf : ℕ → Cell
-cellOf b = cond (eqb b 255) unshown (cited b)
+-- 255 is the open mark; 254, where evidence has one (job 5), the mark of a cell that its roles bar; any other number cites a record
+abbrev pub cellOf : Bool → ℕ → Cell
+cellOf marks b = cond (eqb b 255) unshown (cond (marks && eqb b 254) barred (cited b))
+
+-- whether the byte is a mark: it cites no record
+abbrev pub isMark : Bool → ℕ → Bool
+isMark marks b = eqb b 255 || (marks && eqb b 254)
 
 -- where the tree of a counting step with k rows begins
 abbrev pub treeAt : ℕ → ℕ
 treeAt k = 2 + k + (2 ^ k - 1)
 
 -- 6: k, k row literals, 2 ^ k - 1 cells, and a tree that ends with the record
-unfoldable pub countingIn : List ℕ → ℕ → Option Step
-countingIn ds k = cond (leb 1 k && (leb k 6 && leb (treeAt k) (length ds)))
+unfoldable pub countingIn : Bool → List ℕ → ℕ → Option Step
+countingIn marks ds k = cond (leb 1 k && (leb k 6 && leb (treeAt k) (length ds)))
     (andThen (treeIn ds mostDepth k (treeAt k)) (λ t.
-    given (eqb (t .end) (length ds)) (counting (record { rows = bytesAt literal ds 2 k; cells = bytesAt cellOf ds (2 + k) (2 ^ k - 1); tree = t .tree })))) none
+    given (eqb (t .end) (length ds)) (counting (record {
+      rows = bytesAt literal ds 2 k;
+      cells = bytesAt (cellOf marks) ds (2 + k) (2 ^ k - 1);
+      tree = t .tree;
+    })))) none
 
 -- a step byte, then its data and nothing more
 abbrev pub sized : List ℕ → ℕ → Step → Option Step
 sized ds n s = given (eqb (length ds) n) s
 
-unfoldable pub stepOf : List ℕ → ℕ → Option Step
-stepOf ds zero = none
-stepOf ds (suc zero) = sized ds 2 (contradiction (literal (byteAt ds 1)))
-stepOf ds (suc (suc zero)) = sized ds 3 (conjunction (byteAt ds 1) (byteAt ds 2))
-stepOf ds (suc (suc (suc zero))) = sized ds 4 (disjunction (byteAt ds 1) (byteAt ds 2) (byteAt ds 3))
-stepOf ds (suc (suc (suc (suc zero)))) = sized ds 3 (byRule (byteAt ds 1) (byteAt ds 2))
-stepOf ds (suc (suc (suc (suc (suc zero))))) = sized ds 4 (caseSplit (byteAt ds 1) (byteAt ds 2) (byteAt ds 3))
-stepOf ds (suc (suc (suc (suc (suc (suc zero)))))) = countingIn ds (byteAt ds 1)
-stepOf ds (suc (suc (suc (suc (suc (suc (suc k))))))) = none
+unfoldable pub stepOf : Bool → List ℕ → ℕ → Option Step
+stepOf marks ds zero = none
+stepOf marks ds (suc zero) = sized ds 2 (contradiction (literal (byteAt ds 1)))
+stepOf marks ds (suc (suc zero)) = sized ds 3 (conjunction (byteAt ds 1) (byteAt ds 2))
+stepOf marks ds (suc (suc (suc zero))) = sized ds 4 (disjunction (byteAt ds 1) (byteAt ds 2) (byteAt ds 3))
+stepOf marks ds (suc (suc (suc (suc zero)))) = sized ds 3 (byRule (byteAt ds 1) (byteAt ds 2))
+stepOf marks ds (suc (suc (suc (suc (suc zero))))) = sized ds 4 (caseSplit (byteAt ds 1) (byteAt ds 2) (byteAt ds 3))
+stepOf marks ds (suc (suc (suc (suc (suc (suc zero)))))) = countingIn marks ds (byteAt ds 1)
+stepOf marks ds (suc (suc (suc (suc (suc (suc (suc k))))))) = none
 
--- the step that the bytes behind a label are; none if their form is off (10)
-abbrev pub stepIn : List ℕ → Option Step
-stepIn ds = stepOf ds (byteAt ds 0)
+-- the step that the bytes behind a label are, without or with a mark for barred cells; none if their form is off (10), which does not look at
+-- cells
+abbrev pub stepIn : Bool → List ℕ → Option Step
+stepIn marks ds = stepOf marks ds (byteAt ds 0)

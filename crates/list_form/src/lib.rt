@@ -1,11 +1,10 @@
 // The form of a refutation's record behind its label: test 10.
 ghost use mathlib.Core.Path.{_≡_};
-ghost use mathlib.Core.Bool.{_&&_};
+ghost use mathlib.Core.Bool.{Bool, cond};
 ghost use mathlib.Core.Option.{none};
-ghost use Prim.Native.Nat.{_+_, _≤_, _<_, _^_};
-ghost use lib.Dec.{eqb};
+ghost use Prim.Native.Nat.{_+_, _≤_, _<_};
 ghost use Rattle.logic.specs.Refusals.{unless};
-ghost use Rattle.list_form.specs.ListForm.{nodeIn, nodeRefusal, isNode, treeIn, treeAt, countingIn, stepIn};
+ghost use Rattle.list_form.specs.ListForm.{isMark, nodeIn, nodeRefusal, isNode, treeIn, treeAt, countingIn, stepIn};
 ghost use Rattle.list_form.specs.FormSteps.{endOf, formed};
 use parts::byte;
 
@@ -70,7 +69,7 @@ fn tree_start(k: u8) -> usize
 
 // The form of a counting step with `k` rows.
 fn counting_form(ds: &[u8], k: u8) -> bool
-    ensures { λ r. ⌜ r ≡ formed (countingIn (now (ds .entry)) k) ⌝ }
+    ensures { λ r. ⌜ ((marks : Bool) → r ≡ formed (countingIn marks (now (ds .entry)) k)) ⌝ }
 {
     if k < 1 {
         return false;
@@ -85,9 +84,25 @@ fn counting_form(ds: &[u8], k: u8) -> bool
     tree_end(ds, 8, k, start) == ds.len()
 }
 
-// Test 10 of the bytes behind a label: a known step, its data, and nothing more.
+// The first cell byte that is a mark: 254 where barred cells have one, else 255.
+fn first_mark(marks: bool) -> u8
+    ensures { λ r. ⌜ r ≡ cond marks 254 255 ⌝ }
+{
+    if marks { 254 } else { 255 }
+}
+
+// Whether the cell byte `b` is a mark: of an open cell, or of a barred one where these have a mark. One comparison tells it, since the first
+// mark is the same for all cells.
+pub fn is_mark(b: u8, marks: bool) -> bool
+    ensures { λ r. ⌜ r ≡ isMark marks b ⌝ }
+{
+    first_mark(marks) <= b
+}
+
+// Test 10 of the bytes behind a label: a known step, its data, and nothing more. It does not look at cells, so that it is the same with a
+// mark for barred ones and without.
 pub fn step_form(ds: &[u8]) -> bool
-    ensures { λ r. ⌜ r ≡ formed (stepIn (now (ds .entry))) ⌝ }
+    ensures { λ r. ⌜ ((marks : Bool) → r ≡ formed (stepIn marks (now (ds .entry)))) ⌝ }
 {
     let step = byte(ds, 0);
     let n = ds.len();

@@ -220,7 +220,8 @@ pub fn open_cells(cells: &[u8], k: u8) -> [bool; 64]
     }
     let n = cells_of(k as usize);
     let mut c: usize = 0;
-    while c < n {
+    // By `!=`, as in the other loops over cells: of a power of two the compiler makes a shift for each `<`.
+    while c != n {
         marks[c] = is_open(cells, c);
         c += 1;
     }

@@ -1,13 +1,13 @@
 -- 16 and 17 of a counting step as the code tests them, on the step's bytes.
 use Prim.Native.Nat.{ℕ, zero, suc, _+_, _-_, _/_, _%_, _^_, _≤_, _<_}
 use mathlib.Core.Path.{_≡_, refl, sym, _∙_, ap, ap₂}
-use mathlib.Core.Bool.{Bool, true, false, _&&_}
+use mathlib.Core.Bool.{Bool, true, false, cond, _&&_, _||_}
 use mathlib.Core.List.{List, []}
 use mathlib.Core.Option.{Option, none, some, Option·none-ne-some}
 use native.Mathlib.Omega.{arith}
 use native.Mathlib.Decide.{decLe}
-use borrow.Author.Tests.{ne-eqb, lt-ltb, le-ltb}
-use lib.Dec.{ltb}
+use borrow.Author.Tests.{lt-ltb, le-ltb}
+use lib.Dec.{eqb, ltb}
 use lib.ListN.{length, getD}
 use Rattle.logic.specs.Tests.{_⇒_}
 use Rattle.logic.specs.Bounded.{allBelow, all-cong}
@@ -18,14 +18,13 @@ use Rattle.parts.specs.Numbers.{byteAt, upTo, up-to-all}
 use Rattle.counting.specs.Trees.{leaf}
 use Rattle.description.specs.Literals.{pos, literal, code, code-literal, entryOf, members}
 use Rattle.description.specs.Descriptions.{Description}
-use Rattle.tables.specs.Tables.{describe}
 use Rattle.refutation.specs.Cells.{Row, rowOf, isRow}
-use Rattle.refutation.specs.Records.{unshown, Counting, counting, cellAt}
+use Rattle.refutation.specs.Records.{unshown, cited, barred, Counting, counting, cellAt}
 use Rattle.refutation.specs.RecordTests.{citeTest, stepTest, ifCited}
-use Rattle.list_form.specs.ListForm.{bytesAt, cellOf}
+use Rattle.list_form.specs.ListForm.{bytesAt, cellOf, isMark}
 use Rattle.rows.specs.declared.RowOf.{RowOf}
 use Rattle.rows.specs.declared.RowOf.the-variants.{Is, Nothing}
-use Rattle.rows.specs.HeldRows.{heldRow}
+use Rattle.rows.specs.HeldRows.{withoutRoles, heldRow}
 use Rattle.cites.specs.declared.Cite.{Cite}
 use Rattle.cites.specs.declared.Cite.the-variants.{Earlier, Bad}
 use Rattle.cites.specs.Cites.{namedRefusal, citeOf, is-earlier, is-bad}
@@ -33,8 +32,8 @@ use Rattle.answers.specs.declared.Tested.the-variants.{Fine, Refused}
 use Rattle.answers.specs.Answers.{refusalOf}
 
 -- the counting step of the bytes ds with k rows; 16 and 17 do not ask for its tree
-abbrev pub countOf : List ℕ → ℕ → Counting
-countOf ds k = record { rows = bytesAt literal ds 2 k; cells = bytesAt cellOf ds (2 + k) (2 ^ k - 1); tree = leaf [] }
+abbrev pub countOf : Bool → List ℕ → ℕ → Counting
+countOf marks ds k = record { rows = bytesAt literal ds 2 k; cells = bytesAt (cellOf marks) ds (2 + k) (2 ^ k - 1); tree = leaf [] }
 
 -- its 16 and 17, which ask for no other label
 abbrev pub rowsRefusal : Description → ℕ → ℕ → Counting → Option ℕ
@@ -45,32 +44,34 @@ abbrev pub inTable : List ℕ → List ℕ → ℕ → Bool
 inTable cs ds j = ltb (entryOf (literal (byteAt ds (2 + j)))) (length cs / 6)
 
 abbrev pub namedAt : List ℕ → ℕ → List ℕ → ℕ → Bool
-namedAt cs N ds j = members N (literal (byteAt ds (2 + j))) && isRow (rowOf (describe [] cs []) (literal (byteAt ds (2 + j))))
+namedAt cs N ds j = members N (literal (byteAt ds (2 + j))) && isRow (rowOf (withoutRoles cs []) (literal (byteAt ds (2 + j))))
 
 abbrev pub risesAt : List ℕ → ℕ → ℕ → Bool
 risesAt ds k j = ltb (suc j) k ⇒ ltb (byteAt ds (2 + j)) (byteAt ds (3 + j))
 
--- cell c is none of the step, is open, or cites a record before i
-abbrev pub citesAt : List ℕ → ℕ → ℕ → ℕ → Bool
-citesAt ds k i c = ltb 0 c ⇒ ifCited (λ j. ltb j i) (cellOf (byteAt ds (1 + k + c)))
+-- cell c is none of the step, has a mark, or cites a record before i
+abbrev pub citesAt : Bool → List ℕ → ℕ → ℕ → ℕ → Bool
+citesAt marks ds k i c = ltb 0 c ⇒ ifCited (λ j. ltb j i) (cellOf marks (byteAt ds (1 + k + c)))
 
 -- ---- the tests of the bytes are those of the step
-module _ (cs ds : List ℕ) (k i N : ℕ) where
+module _ (marks : Bool) (cs ds : List ℕ) (k i N : ℕ) where
   abbrev D : Description
-  D = describe [] cs []
+  D = withoutRoles cs []
 
   abbrev K : Counting
-  K = countOf ds k
+  K = countOf marks ds k
 
-  cell-at : (c : ℕ) → c < 2 ^ k → (ltb 0 c ⇒ ifCited (λ j. ltb j i) (cellOf (byteAt ds (1 + k + c)))) ≡ (ltb 0 c ⇒ ifCited (λ j. ltb j i) (cellAt (K .cells) c))
+  cell-at : (c : ℕ) → c < 2 ^ k → citesAt marks ds k i c ≡ (ltb 0 c ⇒ ifCited (λ j. ltb j i) (cellAt (K .cells) c))
   cell-at zero h = refl
   cell-at (suc c) h = let z : 1 + k + suc c ≡ 2 + k + c = omega arith in let w : suc c - 1 ≡ c = omega arith in
-      rw (z, w, at-tabulate (2 ^ k - 1) (λ m. cellOf (byteAt ds (2 + k + m))) unshown c (omega arith)) refl
+      rw (z, w, at-tabulate (2 ^ k - 1) (λ m. cellOf marks (byteAt ds (2 + k + m))) unshown c (omega arith)) refl
 
-  pub cites-are : (allBelow k (inTable cs ds) && allBelow (2 ^ k) (citesAt ds k i)) ≡ citeTest D (λ j. 0) i N (counting K)
+  pub cites-are : (allBelow k (inTable cs ds) && allBelow (2 ^ k) (citesAt marks ds k i)) ≡ citeTest D (λ j. 0) i N (counting K)
   unfolding citeTest
   cites-are = ap₂ _&&_ (each-tabulate k (λ j. literal (byteAt ds (2 + j))) (λ l. ltb (entryOf l) (length cs / 6)))
-      (all-cong (2 ^ k) _ _ cell-at ∙ ap (λ m. allBelow (2 ^ m) (λ c. ltb 0 c ⇒ ifCited (λ j. ltb j i) (cellAt (K .cells) c))) (sym (length-tabulate k (λ j. literal (byteAt ds (2 + j))))))
+      (all-cong (2 ^ k) _ _ cell-at
+      ∙ ap (λ m. allBelow (2 ^ m) (λ c. ltb 0 c ⇒ ifCited (λ j. ltb j i) (cellAt (K .cells) c)))
+      (sym (length-tabulate k (λ j. literal (byteAt ds (2 + j))))))
 
   rise-at : (j : ℕ) → j < k → risesAt ds k j ≡ (ltb (suc j) k ⇒ ltb (code (getD (K .rows) j (pos 0))) (code (getD (K .rows) (suc j) (pos 0))))
   rise-at j h = elim (decLe k (suc j)) [
@@ -95,27 +96,36 @@ half-is b = elim (decLe 1 (b % 2)) [
 pub in-table : (cs ds : List ℕ) (j b : ℕ) → b ≡ byteAt ds (2 + j) → ltb (b / 2) (length cs / 6) ≡ inTable cs ds j
 in-table cs ds j b p = rw (half-is b, p) refl
 
-module _ (ds : List ℕ) (k i c : ℕ) where
-  pub cell-none : c ≡ 0 → true ≡ citesAt ds k i c
+module _ (marks : Bool) (ds : List ℕ) (k i c : ℕ) where
+  pub cell-none : c ≡ 0 → true ≡ citesAt marks ds k i c
   cell-none e = rw e refl
 
   module _ (b : ℕ) (p : b ≡ byteAt ds (1 + k + c)) (h : c ≡ 0 → ⊥) where
     some-cell : ltb 0 c ≡ true
     some-cell = lt-ltb 0 c (omega arith)
 
-    pub cell-open : b ≡ 255 → true ≡ citesAt ds k i c
+    -- a byte that is a mark passes, any other is tested
+    by-mark : citesAt marks ds k i c ≡ (isMark marks b || ltb b i)
     unfolding ifCited
-    cell-open e = rw (some-cell, ← p, e) refl
+    by-mark = rw (some-cell, ← p) (go (eqb b 255) (marks && eqb b 254))
+      where
+        go : (o m : Bool) → ifCited (λ j. ltb j i) (cond o unshown (cond m barred (cited b))) ≡ ((o || m) || ltb b i)
+        go true m = refl
+        go false true = refl
+        go false false = refl
 
-    cell-test : (b ≡ 255 → ⊥) → ltb b i ≡ citesAt ds k i c
-    unfolding ifCited
-    cell-test e = rw (some-cell, ← p, ne-eqb b 255 e) refl
+    pub cell-mark : (o : Bool) → o ≡ isMark marks b → o ≡ true → true ≡ citesAt marks ds k i c
+    cell-mark o q e = sym (by-mark ∙ rw (sym q ∙ e) refl)
 
-    pub cell-earlier : (b ≡ 255 → ⊥) → (x : Cite) (d : ℕ) → x ≡ citeOf i b → x ≡ Earlier d → true ≡ citesAt ds k i c
-    cell-earlier e x d q t = sym (is-earlier i b d x q t .0) ∙ cell-test e
+    cell-test : (o : Bool) → o ≡ isMark marks b → o ≡ false → ltb b i ≡ citesAt marks ds k i c
+    cell-test o q e = sym (by-mark ∙ rw (sym q ∙ e) refl)
 
-    pub cell-bad : (b ≡ 255 → ⊥) → (x : Cite) → x ≡ citeOf i b → x ≡ Bad → false ≡ citesAt ds k i c
-    cell-bad e x q t = sym (is-bad i b x q t) ∙ cell-test e
+    module _ (o : Bool) (m : o ≡ isMark marks b) (e : o ≡ false) (x : Cite) (q : x ≡ citeOf i b) where
+      pub cell-earlier : (d : ℕ) → x ≡ Earlier d → true ≡ citesAt marks ds k i c
+      cell-earlier d t = sym (is-earlier i b d x q t .0) ∙ cell-test o m e
+
+      pub cell-bad : x ≡ Bad → false ≡ citesAt marks ds k i c
+      cell-bad t = sym (is-bad i b x q t) ∙ cell-test o m e
 
 module _ (cs : List ℕ) (N : ℕ) (ds : List ℕ) (j b : ℕ) (p : b ≡ byteAt ds (2 + j)) where
   pub named-not : has N b ≡ false → false ≡ namedAt cs N ds j
@@ -126,13 +136,15 @@ module _ (cs : List ℕ) (N : ℕ) (ds : List ℕ) (j b : ℕ) (p : b ≡ byteAt
   is-row none x e = (λ y q. absurd (let z : _≡_ {A = ℕ} 0 1 = cc in omega arith), λ q. refl)
   is-row (some R) x e = (λ y q. refl, λ q. absurd (let z : _≡_ {A = ℕ} 0 1 = cc in omega arith))
 
-  pub named-row : has N b ≡ true → (x : RowOf) (y : _) → x ≡ heldRow (rowOf (describe [] cs []) (literal b)) → x ≡ Is y → true ≡ namedAt cs N ds j
+  pub named-row : has N b ≡ true → (x : RowOf) (y : _) → x ≡ heldRow (rowOf (withoutRoles cs []) (literal b)) → x ≡ Is y
+      → true ≡ namedAt cs N ds j
   unfolding members
-  named-row e x y q t = rw (← p, code-literal b, e) (is-row (rowOf (describe [] cs []) (literal b)) x q .0 y t)
+  named-row e x y q t = rw (← p, code-literal b, e) (is-row (rowOf (withoutRoles cs []) (literal b)) x q .0 y t)
 
-  pub named-no-row : has N b ≡ true → (x : RowOf) → x ≡ heldRow (rowOf (describe [] cs []) (literal b)) → x ≡ Nothing → false ≡ namedAt cs N ds j
+  pub named-no-row : has N b ≡ true → (x : RowOf) → x ≡ heldRow (rowOf (withoutRoles cs []) (literal b)) → x ≡ Nothing
+      → false ≡ namedAt cs N ds j
   unfolding members
-  named-no-row e x q t = rw (← p, code-literal b, e) (is-row (rowOf (describe [] cs []) (literal b)) x q .1 t)
+  named-no-row e x q t = rw (← p, code-literal b, e) (is-row (rowOf (withoutRoles cs []) (literal b)) x q .1 t)
 
 module _ (ds : List ℕ) (k j : ℕ) where
   pub rises-next : (a b : ℕ) → a ≡ byteAt ds (2 + j) → b ≡ byteAt ds (3 + j) → j + 1 < k → ltb a b ≡ risesAt ds k j
@@ -142,23 +154,28 @@ module _ (ds : List ℕ) (k j : ℕ) where
   rises-last h = let z : k ≤ suc j = omega arith in rw (le-ltb (suc j) k z) refl
 
 -- the four tests in their order
-module _ (cs ds : List ℕ) (k i N : ℕ) where
+module _ (marks : Bool) (cs ds : List ℕ) (k i N : ℕ) where
+  -- 16, and 17
+  abbrev pub cite : Bool
+  cite = allBelow k (inTable cs ds) && allBelow (2 ^ k) (citesAt marks ds k i)
+
+  abbrev step : Bool
+  step = allBelow k (namedAt cs N ds) && allBelow k (risesAt ds k)
+
   abbrev told : Option Refusal
-  told = refuse i (rowsRefusal (describe [] cs []) i N (countOf ds k)) none
+  told = refuse i (rowsRefusal (withoutRoles cs []) i N (countOf marks ds k)) none
 
-  pub rows-16 : (allBelow k (inTable cs ds) && allBelow (2 ^ k) (citesAt ds k i)) ≡ false → refusalOf (Refused 16 i) ≡ told
+  pub rows-16 : cite ≡ false → refusalOf (Refused 16 i) ≡ told
   unfolding namedRefusal
-  rows-16 e = rw (sym (cites-are cs ds k i N) ∙ e) refl
+  rows-16 e = rw (sym (cites-are marks cs ds k i N) ∙ e) refl
 
-  pub rows-17 : (allBelow k (inTable cs ds) && allBelow (2 ^ k) (citesAt ds k i)) ≡ true → (allBelow k (namedAt cs N ds) && allBelow k (risesAt ds k)) ≡ false
-      → refusalOf (Refused 17 i) ≡ told
+  pub rows-17 : cite ≡ true → step ≡ false → refusalOf (Refused 17 i) ≡ told
   unfolding namedRefusal
-  rows-17 p e = rw (sym (cites-are cs ds k i N) ∙ p, sym (rows-are cs ds k i N) ∙ e) refl
+  rows-17 p e = rw (sym (cites-are marks cs ds k i N) ∙ p, sym (rows-are marks cs ds k i N) ∙ e) refl
 
-  pub rows-fine : (allBelow k (inTable cs ds) && allBelow (2 ^ k) (citesAt ds k i)) ≡ true → (allBelow k (namedAt cs N ds) && allBelow k (risesAt ds k)) ≡ true
-      → refusalOf Fine ≡ told
+  pub rows-fine : cite ≡ true → step ≡ true → refusalOf Fine ≡ told
   unfolding namedRefusal
-  rows-fine p e = rw (sym (cites-are cs ds k i N) ∙ p, sym (rows-are cs ds k i N) ∙ e) refl
+  rows-fine p e = rw (sym (cites-are marks cs ds k i N) ∙ p, sym (rows-are marks cs ds k i N) ∙ e) refl
 
 -- the number of cells of at most six rows
 pub count-few : (k n : ℕ) → k ≤ 6 → n ≡ 2 ^ upTo 6 k → n ≡ 2 ^ k

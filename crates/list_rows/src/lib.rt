@@ -6,15 +6,16 @@ ghost use Prim.Native.Nat.{_+_, _^_, _<_, _≤_};
 ghost use Rattle.logic.specs.Bounded.{allBelow};
 ghost use Rattle.logic.specs.Refusals.{unless, refuse};
 ghost use Rattle.parts.specs.Numbers.{upTo};
-ghost use Rattle.tables.specs.Tables.{describe};
 ghost use Rattle.labels.specs.Labels.{valueOf};
 ghost use Rattle.answers.specs.Answers.{refusalOf};
+ghost use Rattle.rows.specs.HeldRows.{withoutRoles};
 ghost use Rattle.list_rows.specs.RowSteps.{inTable, namedAt, risesAt, citesAt, rowsRefusal, countOf};
 use answers::Tested;
 use cites::Cite;
 use cites::look_up;
 use labels::Label;
 use labels::holds;
+use list_form::is_mark;
 use parts::byte;
 use parts::up_to;
 use rows::RowOf;
@@ -44,16 +45,16 @@ fn rows_in_table(cs: &[u8], ds: &[u8], k: u8) -> bool
     true
 }
 
-// 16 of cell `c` of a step of record `i` with `k` rows: it is open, or cites a record before.
-fn test_cell(ds: &[u8], k: u8, i: u8, c: usize) -> Tested
+// 16 of cell `c` of a step of record `i` with `k` rows: it has a mark, or cites a record before. `marks`: barred cells have one.
+fn test_cell(ds: &[u8], k: u8, i: u8, c: usize, marks: bool) -> Tested
     requires { ⌜ (k ≤ 6) × (c < 64) ⌝ }
-    ensures { λ r. ⌜ refusalOf r ≡ refuse i (unless (citesAt (now (ds .entry)) k i c) 16 none) none ⌝ }
+    ensures { λ r. ⌜ refusalOf r ≡ refuse i (unless (citesAt marks (now (ds .entry)) k i c) 16 none) none ⌝ }
 {
     if c == 0 {
         return Tested::Fine;
     }
     let j = byte(ds, 1 + (k as usize) + c);
-    if j == 255 {
+    if is_mark(j, marks) {
         return Tested::Fine;
     }
     let found = look_up(i, j);
@@ -64,14 +65,15 @@ fn test_cell(ds: &[u8], k: u8, i: u8, c: usize) -> Tested
 }
 
 // 16 of the cells of a step of record `i`.
-fn test_cells(ds: &[u8], k: u8, i: u8) -> Tested
+fn test_cells(ds: &[u8], k: u8, i: u8, marks: bool) -> Tested
     requires { ⌜ k ≤ 6 ⌝ }
-    ensures { λ r. ⌜ refusalOf r ≡ refuse i (unless (allBelow (2 ^ k) (citesAt (now (ds .entry)) k i)) 16 none) none ⌝ }
+    ensures { λ r. ⌜ refusalOf r ≡ refuse i (unless (allBelow (2 ^ k) (citesAt marks (now (ds .entry)) k i)) 16 none) none ⌝ }
 {
     let n = cell_count(k);
     let mut c: usize = 0;
-    while c < n {
-        let t = test_cell(ds, k, i, c);
+    // By `!=`: of a number of cells that is a power of two the compiler makes a shift for each `<`.
+    while c != n {
+        let t = test_cell(ds, k, i, c, marks);
         let Tested::Fine = t else {
             return t;
         };
@@ -139,14 +141,15 @@ fn rows_rise(ds: &[u8], k: u8) -> bool
 }
 
 // Tests 16 and 17 of the counting step `ds` of record `i`, whose label is `x`; of more than 6 rows the first 6 are read.
-pub fn test_rows(cs: &[u8], i: u8, x: Label, ds: &[u8], rows: u8) -> Tested
-    ensures { λ r. ⌜ refusalOf r ≡ refuse i (rowsRefusal (describe [] (now (cs .entry)) []) i (valueOf x) (countOf (now (ds .entry)) (upTo 6 rows))) none ⌝ }
+pub fn test_rows(cs: &[u8], i: u8, x: Label, ds: &[u8], rows: u8, marks: bool) -> Tested
+    ensures { λ r. ⌜ refusalOf r ≡ refuse i (rowsRefusal (withoutRoles (now (cs .entry)) []) i (valueOf x)
+        (countOf marks (now (ds .entry)) (upTo 6 rows))) none ⌝ }
 {
     let k = up_to(6, rows as usize);
     if !rows_in_table(cs, ds, k) {
         return Tested::Refused(16, i);
     }
-    let cells = test_cells(ds, k, i);
+    let cells = test_cells(ds, k, i, marks);
     let Tested::Fine = cells else {
         return cells;
     };

@@ -18,7 +18,7 @@ use Rattle.logic.specs.Refusals.{Refusal, unless, refuse}
 use Rattle.description.specs.Literals.{Literal, pos, neg, literal, code, code-literal, literal-code, members, adding, opposite}
 use Rattle.description.specs.Descriptions.{Entry, top, name, both, every, atLeast, Description, entryOfFields, isBoth}
 use Rattle.parts.specs.Numbers.{byteAt, upTo, up-to-all, up-to-most}
-use Rattle.tables.specs.Tables.{fieldsAt, describe}
+use Rattle.tables.specs.Tables.{fieldsAt}
 use Rattle.tables.specs.Concepts.{conceptOf, conceptAt}
 use Rattle.tables.specs.declared.Concept.{Concept}
 use Rattle.tables.specs.declared.Concept.the-variants.{Top, Name, Both, Every, AtLeast}
@@ -31,7 +31,7 @@ use Rattle.labels.specs.Labels.{mostEntries, mostLiterals}
 use Rattle.nodes.specs.NodeSteps.{opposed}
 use Rattle.tables.specs.Tables.{entryCount}
 use Rattle.cites.specs.Cites.{ofEntry, namedRefusal}
-use Rattle.rows.specs.HeldRows.{row-same}
+use Rattle.rows.specs.HeldRows.{withoutRoles, row-same}
 use Rattle.list_rows.specs.RowSteps.{countOf, rowsRefusal, half-is}
 use Rattle.list_form.specs.ListForm.{stepIn}
 use Rattle.list_form.specs.FormSteps.{formed}
@@ -107,7 +107,7 @@ module _ (D : Description) (num : ℕ → ℕ) (i N : ℕ) (x : Step) where
 -- ---- 16 and 17 of each step, from the tests that the code makes
 module _ (cs qs : List ℕ) (num : ℕ → ℕ) (i N : ℕ) where
   abbrev D : Description
-  D = describe [] cs qs
+  D = withoutRoles cs qs
 
   pub cite-1 : (l : ℕ) (a : Bool) → ltb (l / 2) (length cs / 6) ≡ a → citeTest D num i N (contradiction (literal l)) ≡ a
   unfolding citeTest
@@ -161,38 +161,39 @@ module _ (cs qs : List ℕ) (num : ℕ → ℕ) (i N : ℕ) where
   follows-5 e c d j k a b p o q r = rw (← p, ← o, q, r) refl
 
 -- ---- the step that the bytes are, by its first byte
-module _ (cs qs : List ℕ) (num : ℕ → ℕ) (ds : List ℕ) (i N : ℕ) (f : formed (stepIn ds) ≡ true) where
+module _ (marks : Bool) (cs qs : List ℕ) (num : ℕ → ℕ) (ds : List ℕ) (i N : ℕ) (f : formed (stepIn marks ds) ≡ true) where
   abbrev whole : Option Refusal
-  whole = refuse i (stepNamed (describe [] cs qs) num i N (stepIn ds)) none
+  whole = refuse i (stepNamed (withoutRoles cs qs) num i N (stepIn marks ds)) none
 
   abbrev step : List ℕ → (ℕ → ℕ) → Step → Option Refusal
-  step qs′ lab x = refuse i (namedRefusal (describe [] cs qs′) lab i N x) none
+  step qs′ lab x = refuse i (namedRefusal (withoutRoles cs qs′) lab i N x) none
 
   pub by-1 : (a : ℕ) → byteAt ds 0 ≡ 1 → a ≡ byteAt ds 1 → step [] (λ j. 0) (contradiction (literal a)) ≡ whole
   unfolding namedRefusal citeTest stepTest
-  by-1 a e p = rw (p, step-1-is ds f e) refl
+  by-1 a e p = rw (p, step-1-is marks ds f e) refl
 
   pub by-2 : (a b : ℕ) → byteAt ds 0 ≡ 2 → a ≡ byteAt ds 1 → b ≡ byteAt ds 2 → step [] num (conjunction a b) ≡ whole
   unfolding namedRefusal citeTest stepTest
-  by-2 a b e p q = rw (p, q, step-2-is ds f e) refl
+  by-2 a b e p q = rw (p, q, step-2-is marks ds f e) refl
 
   pub by-3 : (a b c : ℕ) → byteAt ds 0 ≡ 3 → a ≡ byteAt ds 1 → b ≡ byteAt ds 2 → c ≡ byteAt ds 3 → step [] num (disjunction a b c) ≡ whole
   unfolding namedRefusal citeTest stepTest
-  by-3 a b c e p q r = rw (p, q, r, step-3-is ds f e) refl
+  by-3 a b c e p q r = rw (p, q, r, step-3-is marks ds f e) refl
 
   pub by-4 : (a b : ℕ) → byteAt ds 0 ≡ 4 → a ≡ byteAt ds 1 → b ≡ byteAt ds 2 → step qs num (byRule a b) ≡ whole
-  by-4 a b e p q = rw (p, q, step-4-is ds f e) refl
+  by-4 a b e p q = rw (p, q, step-4-is marks ds f e) refl
 
   pub by-5 : (a b c : ℕ) → byteAt ds 0 ≡ 5 → a ≡ byteAt ds 1 → b ≡ byteAt ds 2 → c ≡ byteAt ds 3 → step [] num (caseSplit a b c) ≡ whole
   unfolding namedRefusal citeTest stepTest
-  by-5 a b c e p q r = rw (p, q, r, step-5-is ds f e) refl
+  by-5 a b c e p q r = rw (p, q, r, step-5-is marks ds f e) refl
 
-  pub by-6 : (a : ℕ) → byteAt ds 0 ≡ 6 → a ≡ byteAt ds 1 → refuse i (rowsRefusal (describe [] cs []) i N (countOf ds (upTo 6 a))) none ≡ whole
+  pub by-6 : (a : ℕ) → byteAt ds 0 ≡ 6 → a ≡ byteAt ds 1
+      → refuse i (rowsRefusal (withoutRoles cs []) i N (countOf marks ds (upTo 6 a))) none ≡ whole
   unfolding namedRefusal citeTest stepTest
-  by-6 a e p = let w = step-6-is ds f e in let k = byteAt ds 1 in let K = countOf ds k in rw (p, up-to-all 6 k (w .2), w .4)
-      (ap (λ g. refuse i (unless (citeTest (describe [] cs []) (λ j. 0) i N (counting K)) 16
+  by-6 a e p = let w = step-6-is marks ds f e in let k = byteAt ds 1 in let K = countOf marks ds k in rw (p, up-to-all 6 k (w .2), w .4)
+      (ap (λ g. refuse i (unless (citeTest (withoutRoles cs []) (λ j. 0) i N (counting K)) 16
       (unless (each (K .rows) (λ l. members N l && g l) && allBelow (length (K .rows)) (λ j. ltb (suc j) (length (K .rows)) ⇒ ltb (code (literalAt (K .rows) j)) (code (literalAt (K .rows) (suc j))))) 17 none)) none)
-      (fun-ext (λ l. ap isRow (row-same [] cs qs l))))
+      (fun-ext (λ l. ap isRow (row-same [] cs qs none l))))
 
 -- 10 and 16 of the label before them
 module _ (D : Description) (num : ℕ → ℕ) (i N : ℕ) where

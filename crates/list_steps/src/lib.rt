@@ -1,21 +1,22 @@
 // Tests 10, 16 and 17 of a refutation's record: the form of its step, what it names, and that its label follows.
 ghost use mathlib.Core.Path.{_≡_};
 ghost use mathlib.Core.List.{[]};
-ghost use mathlib.Core.Option.{some, none};
+ghost use mathlib.Core.Option.{none};
 ghost use mathlib.Core.Bool.{true, _&&_};
 ghost use Prim.Native.Nat.{_*_, _/_, _-_};
 ghost use lib.Dec.{ltb};
 ghost use lib.ListN.{length};
 ghost use Rattle.logic.specs.Refusals.{refuse};
-ghost use Rattle.logic.specs.Sets.{within, narrow};
+ghost use Rattle.logic.specs.Sets.{within};
 ghost use Rattle.description.specs.Literals.{literal, members, adding, opposite};
 ghost use Rattle.description.specs.Descriptions.{entryOfFields, isBoth};
-ghost use Rattle.tables.specs.Tables.{describe, fieldsAt};
+ghost use Rattle.tables.specs.Tables.{fieldsAt};
 ghost use Rattle.labels.specs.Labels.{valueOf};
 ghost use Rattle.evidence.specs.Evidence.{labelOf};
 ghost use Rattle.refutation.specs.Records.{contradiction, conjunction, disjunction, byRule, caseSplit, inLabel};
 ghost use Rattle.answers.specs.Answers.{refusalOf};
 ghost use Rattle.cites.specs.Cites.{ofEntry, namedRefusal};
+ghost use Rattle.rows.specs.HeldRows.{withoutRoles};
 ghost use Rattle.list_form.specs.ListForm.{stepIn};
 ghost use Rattle.list_form.specs.FormSteps.{formed};
 ghost use Rattle.list_steps.specs.StepSteps.{stepRefusal, stepNamed};
@@ -69,7 +70,8 @@ fn in_label(x: Label, l: u8) -> bool
 
 // Step 1, of literal `l`: the label contradicts itself.
 fn step_1(cs: &[u8], i: u8, x: Label, l: u8) -> Tested
-    ensures { λ r. ⌜ refusalOf r ≡ refuse i (namedRefusal (describe [] (now (cs .entry)) []) (λ j. 0) i (valueOf x) (contradiction (literal l))) none ⌝ }
+    ensures { λ r. ⌜ refusalOf r ≡ refuse i (namedRefusal (withoutRoles (now (cs .entry)) []) (λ j. 0) i (valueOf x)
+        (contradiction (literal l))) none ⌝ }
 {
     if !entry_in(cs, EntryNo(l / 2)) {
         return Tested::Refused(16, i);
@@ -99,7 +101,8 @@ fn both_within(cs: &[u8], s: &[u8], x: Label, e: EntryNo, c: u8, f: Layout) -> b
 
 // Step 2, by the "both" `e` of the label.
 fn step_2(cs: &[u8], s: &[u8], i: u8, x: Label, e: EntryNo, c: u8, f: Layout) -> Tested
-    ensures { λ r. ⌜ refusalOf r ≡ refuse i (namedRefusal (describe [] (now (cs .entry)) []) (labelOf f (now (s .entry))) i (valueOf x) (conjunction (e .0) c)) none ⌝ }
+    ensures { λ r. ⌜ refusalOf r ≡ refuse i (namedRefusal (withoutRoles (now (cs .entry)) []) (labelOf f (now (s .entry))) i
+        (valueOf x) (conjunction (e .0) c)) none ⌝ }
 {
     if !entry_in(cs, e) {
         return Tested::Refused(16, i);
@@ -135,7 +138,8 @@ fn sides_within(cs: &[u8], s: &[u8], x: Label, e: EntryNo, c: u8, d: u8, f: Layo
 
 // Step 3, by the "both" `e` that the label denies.
 fn step_3(cs: &[u8], s: &[u8], i: u8, x: Label, e: EntryNo, c: u8, d: u8, f: Layout) -> Tested
-    ensures { λ r. ⌜ refusalOf r ≡ refuse i (namedRefusal (describe [] (now (cs .entry)) []) (labelOf f (now (s .entry))) i (valueOf x) (disjunction (e .0) c d)) none ⌝ }
+    ensures { λ r. ⌜ refusalOf r ≡ refuse i (namedRefusal (withoutRoles (now (cs .entry)) []) (labelOf f (now (s .entry))) i
+        (valueOf x) (disjunction (e .0) c d)) none ⌝ }
 {
     if !entry_in(cs, e) {
         return Tested::Refused(16, i);
@@ -159,7 +163,8 @@ fn step_3(cs: &[u8], s: &[u8], i: u8, x: Label, e: EntryNo, c: u8, d: u8, f: Lay
 
 // Step 4, by rule `q`.
 fn step_4(cs: &[u8], qs: &[u8], s: &[u8], i: u8, x: Label, q: u8, c: u8, f: Layout) -> Tested
-    ensures { λ r. ⌜ refusalOf r ≡ refuse i (namedRefusal (describe [] (now (cs .entry)) (now (qs .entry))) (labelOf f (now (s .entry))) i (valueOf x) (byRule q c)) none ⌝ }
+    ensures { λ r. ⌜ refusalOf r ≡ refuse i (namedRefusal (withoutRoles (now (cs .entry)) (now (qs .entry))) (labelOf f (now (s .entry))) i
+        (valueOf x) (byRule q c)) none ⌝ }
 {
     let n = qs.len();
     if n <= (q as usize) + 1 {
@@ -177,7 +182,8 @@ fn step_4(cs: &[u8], qs: &[u8], s: &[u8], i: u8, x: Label, q: u8, c: u8, f: Layo
 
 // Step 5, by both cases of entry `e`.
 fn step_5(cs: &[u8], s: &[u8], i: u8, x: Label, e: EntryNo, c: u8, d: u8, f: Layout) -> Tested
-    ensures { λ r. ⌜ refusalOf r ≡ refuse i (namedRefusal (describe [] (now (cs .entry)) []) (labelOf f (now (s .entry))) i (valueOf x) (caseSplit (e .0) c d)) none ⌝ }
+    ensures { λ r. ⌜ refusalOf r ≡ refuse i (namedRefusal (withoutRoles (now (cs .entry)) []) (labelOf f (now (s .entry))) i
+        (valueOf x) (caseSplit (e .0) c d)) none ⌝ }
 {
     if !entry_in(cs, e) {
         return Tested::Refused(16, i);
@@ -201,8 +207,9 @@ fn step_5(cs: &[u8], s: &[u8], i: u8, x: Label, e: EntryNo, c: u8, d: u8, f: Lay
 
 // 16 and 17 of the step `ds`, whose form was tested.
 fn test_named(cs: &[u8], qs: &[u8], s: &[u8], i: u8, x: Label, ds: &[u8], f: Layout) -> Tested
-    requires { ⌜ formed (stepIn (now ds)) ≡ true ⌝ }
-    ensures { λ r. ⌜ refusalOf r ≡ refuse i (stepNamed (describe [] (now (cs .entry)) (now (qs .entry))) (labelOf f (now (s .entry))) i (valueOf x) (stepIn (now (ds .entry)))) none ⌝ }
+    requires { ⌜ formed (stepIn (f .marks) (now ds)) ≡ true ⌝ }
+    ensures { λ r. ⌜ refusalOf r ≡ refuse i (stepNamed (withoutRoles (now (cs .entry)) (now (qs .entry))) (labelOf f (now (s .entry))) i
+        (valueOf x) (stepIn (f .marks) (now (ds .entry)))) none ⌝ }
 {
     let step = byte(ds, 0);
     let a = byte(ds, 1);
@@ -214,13 +221,14 @@ fn test_named(cs: &[u8], qs: &[u8], s: &[u8], i: u8, x: Label, ds: &[u8], f: Lay
         3 => step_3(cs, s, i, x, EntryNo(a), b, c, f),
         4 => step_4(cs, qs, s, i, x, a, b, f),
         5 => step_5(cs, s, i, x, EntryNo(a), b, c, f),
-        _ => test_rows(cs, i, x, ds, a),
+        _ => test_rows(cs, i, x, ds, a, f.marks),
     }
 }
 
 // 10, 16 and 17 of record `i` with the label `x` and the step `ds`.
 pub fn test_step(cs: &[u8], qs: &[u8], s: &[u8], i: u8, x: Label, ds: &[u8], f: Layout) -> Tested
-    ensures { λ r. ⌜ refusalOf r ≡ refuse i (stepRefusal (describe [] (now (cs .entry)) (now (qs .entry))) (labelOf f (now (s .entry))) i (valueOf x) (stepIn (now (ds .entry)))) none ⌝ }
+    ensures { λ r. ⌜ refusalOf r ≡ refuse i (stepRefusal (withoutRoles (now (cs .entry)) (now (qs .entry))) (labelOf f (now (s .entry))) i
+        (valueOf x) (stepIn (f .marks) (now (ds .entry)))) none ⌝ }
 {
     if !step_form(ds) {
         return Tested::Refused(10, i);

@@ -22,7 +22,7 @@ use Rattle.counting.specs.Rows.{Bound, limitsFrom, limits, closedTest}
 use Rattle.description.specs.Literals.{literal}
 use Rattle.refutation.specs.Cells as Theory
 use Rattle.refutation.specs.Cells.{bounds, length-bounds}
-use Rattle.refutation.specs.Records.{unshown, cited, isOpen, openAt, Counting, asCounting, counting}
+use Rattle.refutation.specs.Records.{Cell, unshown, cited, barred, isOpen, openAt, Counting, asCounting, counting}
 use Rattle.list_form.specs.ListForm.{Placed, bytesAt, cellOf, treeIn, treeAt, mostDepth, countingIn, andThen, given}
 use Rattle.list_form.specs.FormSteps.{node-past, tree-past}
 use Rattle.rows.specs.HeldRows as HeldRows
@@ -80,19 +80,29 @@ leaf-part ds marks k n at end way h g f a e l = let z : end - (at + 1) ≡ n = o
     rw (z, part-bytes ds (at + 1) n (omega arith), length-tabulate n (λ i. byteAt ds (at + 1 + i)), le-leb k 6 h, le-leb k n g, le-leb n 14 f)
     (leaf-few k marks (limitsHeld k way n) (bytesAt (λ b. b) ds (at + 1) n) h a)
 
--- ---- the open cells
-pub open-part : (ds : List ℕ) (at n : ℕ) → at + n ≤ length ds → openByte (take n (drop at ds)) ≡ openAt (bytesAt cellOf ds at n)
-open-part ds at n h = rw (part-bytes ds at n h) (fun-ext (λ c. go c (decLt (c - 1) n)))
+-- ---- the open cells: a byte is that of one or not, whatever the others stand for
+open-part : (marks : Bool) (ds : List ℕ) (at n : ℕ) → openByte (bytesAt (λ b. b) ds at n) ≡ openAt (bytesAt (cellOf marks) ds at n)
+open-part marks ds at n = fun-ext (λ c. go c (decLt (c - 1) n))
   where
-    one : (b : ℕ) (t : Bool) → eqb b 255 ≡ t → t ≡ isOpen (cond t unshown (cited b))
-    one b true e = refl
-    one b false e = refl
+    bytes : List ℕ
+    bytes = bytesAt (λ b. b) ds at n
 
-    go : (c : ℕ) → Dec (c - 1 < n) → eqb (getD (bytesAt (λ b. b) ds at n) (c - 1) 255) 255 ≡ isOpen (getD (bytesAt cellOf ds at n) (c - 1) unshown)
-    go c (yes l) = rw (at-tabulate n (λ i. byteAt ds (at + i)) 255 (c - 1) l, at-tabulate n (λ i. cellOf (byteAt ds (at + i))) unshown (c - 1) l) (one (byteAt ds (at + (c - 1))) _ refl)
-    go c (no l) = let u = length-tabulate n (λ i. byteAt ds (at + i)) in let w = length-tabulate n (λ i. cellOf (byteAt ds (at + i))) in
-        let p : length (bytesAt (λ b. b) ds at n) ≤ c - 1 = omega (arith, u) in let q : length (bytesAt cellOf ds at n) ≤ c - 1 = omega (arith, w) in
-        rw (List·getD-eq-default (bytesAt (λ b. b) ds at n) 255 p, List·getD-eq-default (bytesAt cellOf ds at n) unshown q) refl
+    cells : List Cell
+    cells = bytesAt (cellOf marks) ds at n
+
+    one : (b : ℕ) (o m : Bool) → o ≡ isOpen (cond o unshown (cond m barred (cited b)))
+    one b true m = refl
+    one b false true = refl
+    one b false false = refl
+
+    go : (c : ℕ) → Dec (c - 1 < n) → eqb (getD bytes (c - 1) 255) 255 ≡ isOpen (getD cells (c - 1) unshown)
+    go c (yes l) = let b = byteAt ds (at + (c - 1)) in
+        rw (at-tabulate n (λ i. byteAt ds (at + i)) 255 (c - 1) l, at-tabulate n (λ i. cellOf marks (byteAt ds (at + i))) unshown (c - 1) l)
+        (one b (eqb b 255) (marks && eqb b 254))
+    go c (no l) = let u = length-tabulate n (λ i. byteAt ds (at + i)) in
+        let w = length-tabulate n (λ i. cellOf marks (byteAt ds (at + i))) in
+        let p : length bytes ≤ c - 1 = omega (arith, u) in let q : length cells ≤ c - 1 = omega (arith, w) in
+        rw (List·getD-eq-default bytes 255 p, List·getD-eq-default cells unshown q) refl
 
 -- ---- the whole test
 -- the number of cells, of at most 6 rows
@@ -120,7 +130,8 @@ module _ (rows : List Row) (ds : List ℕ) (k : ℕ) where
     unfolding closingIn closedIn
     closing-ends t =
         let z : start - (2 + k) ≡ 2 ^ k - 1 = omega arith in
-        ap (ltb 0) t ∙ rw (z, open-part ds (2 + k) (2 ^ k - 1) (omega arith), e, s, le-leb k 6 h) (go (treeIn ds mostDepth k (treeAt k)) refl)
+        ap (ltb 0) t ∙ rw (z, part-bytes ds (2 + k) (2 ^ k - 1) (omega arith), e, s, le-leb k 6 h)
+        (go (treeIn ds mostDepth k (treeAt k)) refl)
       where
         passed : (b : Bool) (x : ℕ) → 0 < x → ltb 0 (endOf (given b x)) ≡ b
         passed true x p = lt-ltb 0 x p
@@ -139,16 +150,19 @@ module _ (rows : List Row) (ds : List ℕ) (k : ℕ) where
     closing-told marks w m t = closing-ends (t ∙ ap endOf (closed-same ds k (marked marks) (openByte cells) mostDepth k (limitsHeld k way k) start (marks-live k cells marks w m h)))
 
 -- ---- 19 on bytes is 19 of the step that they are
-pub closing-step : (rows : List Bound) (ds : List ℕ) (k : ℕ) (K : Counting) → countingIn ds k ≡ some (counting K)
+pub closing-step : (marks : Bool) (rows : List Bound) (ds : List ℕ) (k : ℕ) (K : Counting) → countingIn marks ds k ≡ some (counting K)
     → closingIn rows ds k ≡ closedTest rows (openAt (K .cells)) valueFits (K .tree)
 unfolding closingIn countingIn
-closing-step rows ds k K e = start (leb 1 k && (leb k 6 && leb (treeAt k) (length ds))) refl e
+closing-step marks rows ds k K e = start (leb 1 k && (leb k 6 && leb (treeAt k) (length ds))) refl e
   where
     made : Placed → Counting
-    made t = record { rows = bytesAt literal ds 2 k; cells = bytesAt cellOf ds (2 + k) (2 ^ k - 1); tree = t .tree }
+    made t = record { rows = bytesAt literal ds 2 k; cells = bytesAt (cellOf marks) ds (2 + k) (2 ^ k - 1); tree = t .tree }
 
-    end : (t : Placed) (b : Bool) → given b (counting (made t)) ≡ some (counting K) → closedTest rows (openIn ds k) valueFits (t .tree) ≡ closedTest rows (openAt (K .cells)) valueFits (K .tree)
-    end t true q = let z : made t ≡ K = Option·some-injective _ _ (ap asCounting (Option·some-injective _ _ q)) in ap (λ M. closedTest rows (openAt (M .cells)) valueFits (M .tree)) z
+    end : (t : Placed) (b : Bool) → given b (counting (made t)) ≡ some (counting K)
+        → closedTest rows (openIn ds k) valueFits (t .tree) ≡ closedTest rows (openAt (K .cells)) valueFits (K .tree)
+    end t true q = let z : made t ≡ K = Option·some-injective _ _ (ap asCounting (Option·some-injective _ _ q)) in
+        ap (λ (f : ℕ → Bool). closedTest rows f valueFits (t .tree)) (open-part marks ds (2 + k) (2 ^ k - 1))
+        ∙ ap (λ M. closedTest rows (openAt (M .cells)) valueFits (M .tree)) z
     end t false q = absurd (Option·none-ne-some _ q)
 
     tree : (o : Option Placed) → andThen o (λ t. given (eqb (t .end) (length ds)) (counting (made t))) ≡ some (counting K)

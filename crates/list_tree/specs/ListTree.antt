@@ -5,13 +5,13 @@ use mathlib.Core.List.{List}
 use mathlib.Core.Option.{Option, none, some}
 use lib.Dec.{leb}
 use Rattle.counting.specs.Rows.{Bound, closedTest}
-use Rattle.refutation.specs.Records.{openAt}
 use Rattle.refutation.specs.RecordTests.{storedRefutation}
-use Rattle.list_form.specs.ListForm.{Placed, bytesAt, cellOf, treeIn, treeAt, mostDepth}
+use Rattle.list_form.specs.ListForm.{Placed, bytesAt, treeIn, treeAt, mostDepth}
+use Rattle.list_leaf.specs.Leaf.{openByte}
 
--- the open cells of the step
+-- the open cells of the step: their bytes are 255, with a mark for barred cells and without
 abbrev pub openIn : List ℕ → ℕ → ℕ → Bool
-openIn ds k = openAt (bytesAt cellOf ds (2 + k) (2 ^ k - 1))
+openIn ds k = openByte (bytesAt (λ b. b) ds (2 + k) (2 ^ k - 1))
 
 -- a split's value is at most 1,000
 abbrev pub valueFits : ℕ → Bool

@@ -23,9 +23,13 @@ abbrev pub stepFrom : Option Step → Step
 stepFrom none = contradiction (pos 0)
 stepFrom (some x) = x
 
+-- the step behind a record's label
+abbrev pub stepBehind : Layout → List ℕ → Option Step
+stepBehind f r = stepIn (f .marks) (drop (labelSize f) r)
+
 -- a label, then a step
 abbrev pub recordIn : Layout → List ℕ → Record
-recordIn f r = record { label = labelIn (f .wide) r 0; step = stepFrom (stepIn (drop (labelSize f) r)) }
+recordIn f r = record { label = labelIn (f .wide) r 0; step = stepFrom (stepBehind f r) }
 
 abbrev pub refutationIn : Layout → List ℕ → Refutation
 refutationIn f s = tabulate (recordCount s) (λ i. recordIn f (Bytes.recordAt s i))
@@ -38,10 +42,10 @@ record-at f s x h = at-tabulate (recordCount s) (λ i. recordIn f (Bytes.recordA
 
 -- ---- 10, of a list's record: a label, and behind it the bytes of a step
 abbrev pub RecordForm : Layout → List ℕ → Type 0
-RecordForm f r = (labelSize f ≤ length r) × ((x : Step) × (stepIn (drop (labelSize f) r) ≡ some x))
+RecordForm f r = (labelSize f ≤ length r) × ((x : Step) × (stepBehind f r ≡ some x))
 
 unfoldable pub recordFormTest : Layout → List ℕ → Bool
-recordFormTest f r = leb (labelSize f) (length r) && formed (stepIn (drop (labelSize f) r))
+recordFormTest f r = leb (labelSize f) (length r) && formed (stepBehind f r)
 
 formed↔ : (o : Option Step) → So (formed o) ↔ ((x : Step) × (o ≡ some x))
 formed↔ none = (λ h. absurd (false≢true h), λ h. absurd (Option·none-ne-some (h .0) (h .1)))
@@ -50,15 +54,17 @@ formed↔ (some x) = (λ h. (x, refl), λ h. refl)
 pub record-form↔ : (f : Layout) (r : List ℕ) → So (recordFormTest f r) ↔ RecordForm f r
 unfolding recordFormTest
 record-form↔ f r = (
-  λ h. (so-leb (labelSize f) (length r) (and-l _ _ h), formed↔ (stepIn (drop (labelSize f) r)) .0 (and-r (leb (labelSize f) (length r)) _ h)),
-  λ h. so-and _ _ (leb-so (labelSize f) (length r) (h .0)) (formed↔ (stepIn (drop (labelSize f) r)) .1 (h .1)),
+  λ h. (so-leb (labelSize f) (length r) (and-l _ _ h), formed↔ (stepBehind f r) .0 (and-r (leb (labelSize f) (length r)) _ h)),
+  λ h. so-and _ _ (leb-so (labelSize f) (length r) (h .0)) (formed↔ (stepBehind f r) .1 (h .1)),
 )
 
 -- a record at each width
-pub narrow-record : (r : List ℕ) → recordIn (record { wide = false }) r ≡ record { label = num8 r 0; step = stepFrom (stepIn (drop 8 r)) }
+pub narrow-record : (b : Bool) (r : List ℕ)
+    → recordIn (record { wide = false; marks = b }) r ≡ record { label = num8 r 0; step = stepFrom (stepIn b (drop 8 r)) }
 unfolding labelIn labelBytes
-narrow-record r = refl
+narrow-record b r = refl
 
-pub wide-record : (r : List ℕ) → recordIn (record { wide = true }) r ≡ record { label = num16 r 0; step = stepFrom (stepIn (drop 16 r)) }
+pub wide-record : (b : Bool) (r : List ℕ)
+    → recordIn (record { wide = true; marks = b }) r ≡ record { label = num16 r 0; step = stepFrom (stepIn b (drop 16 r)) }
 unfolding labelIn labelBytes
-wide-record r = refl
+wide-record b r = refl

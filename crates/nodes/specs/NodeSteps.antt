@@ -4,6 +4,7 @@ use mathlib.Core.Path.{_≡_, refl, sym, _∙_, ap, ap₂, subst}
 use mathlib.Core.Logic.{inl, inr}
 use mathlib.Core.Bool.{Bool, true, false, not, _&&_, _||_}
 use mathlib.Core.List.{List}
+use mathlib.Core.Option.{Option}
 use native.Mathlib.Omega.{arith}
 use native.Mathlib.Decide.{decLt}
 use borrow.Author.Tests.{lt-ltb}
@@ -73,9 +74,10 @@ pub put-is : (n N l : ℕ) → n ≤ mostEntries → entryOf (literal l) < n →
 unfolding labelWith adding
 put-is n N l few h = rw (lt-ltb l mostLiterals (has-room n l few h), code-literal l) refl
 
-pub root-is : (rs cs qs : List ℕ) → length cs / 6 ≤ mostEntries → entryOf (literal (byteAt qs 0)) < length cs / 6 → rootSet qs ≡ literalSet (wanted (describe rs cs qs))
+pub root-is : (rs cs qs : List ℕ) (p : Option (List ℕ)) → length cs / 6 ≤ mostEntries → entryOf (literal (byteAt qs 0)) < length cs / 6
+    → rootSet qs ≡ literalSet (wanted (describe rs cs qs p))
 unfolding literalSet
-root-is rs cs qs few h = put-is (length cs / 6) 0 (byteAt qs 0) few h
+root-is rs cs qs p few h = put-is (length cs / 6) 0 (byteAt qs 0) few h
 
 -- what is required of a label, one by one
 module _ (qs : List ℕ) (N : ℕ) where
@@ -96,10 +98,11 @@ module _ (qs : List ℕ) (N : ℕ) where
       ∙ turned (has N (byteAt qs (i + 1))) (allBelow i ruleIn) (within M N)
 
 -- rule 11, for a table whose literals have room
-pub label-is : (rs cs qs : List ℕ) → length cs / 6 ≤ mostEntries → ((i : ℕ) → i < length qs - 1 → entryOf (literal (byteAt qs (i + 1))) < length cs / 6)
-    → (W : List Literal) (N : ℕ) → labelCode (length cs / 6) N (requiredSet qs (literalSet W)) ≡ labelTest (describe rs cs qs) W N
+pub label-is : (rs cs qs : List ℕ) (p : Option (List ℕ)) → length cs / 6 ≤ mostEntries
+    → ((i : ℕ) → i < length qs - 1 → entryOf (literal (byteAt qs (i + 1))) < length cs / 6)
+    → (W : List Literal) (N : ℕ) → labelCode (length cs / 6) N (requiredSet qs (literalSet W)) ≡ labelTest (describe rs cs qs p) W N
 unfolding labelTest members ruleIn
-label-is rs cs qs few rules W N = ap (λ b. narrow N (2 * n) && b) (
+label-is rs cs qs p few rules W N = ap (λ b. narrow N (2 * n) && b) (
     ap (λ b. b && allBelow n (unopposed N)) (within-put (withRules qs (length qs - 1) (literalSet W)) N 0 (omega arith)
     ∙ ap (λ b. has N 0 && b) (within-rules qs N (literalSet W) (length qs - 1) (λ j h. has-room n (byteAt qs (j + 1)) few (rules j h))))
     ∙ arranged (has N 0) (allBelow (length qs - 1) (ruleIn qs N)) (allBelow n (unopposed N)) (within (literalSet W) N)
@@ -125,9 +128,9 @@ partsIn N e a b = (has N (2 * e) ⇒ (has N a && has N b)) && (has N (2 * e + 1)
 abbrev pub bothAt : List ℕ → ℕ → ℕ → Bool
 bothAt cs N e = ifBoth (λ a b. partsIn N e (code a) (code b)) (entryOfFields (fieldsAt cs e))
 
-pub both-is : (rs cs qs : List ℕ) (N : ℕ) → allBelow (length cs / 6) (bothAt cs N) ≡ bothTest (describe rs cs qs) (members N)
+pub both-is : (rs cs qs : List ℕ) (p : Option (List ℕ)) (N : ℕ) → allBelow (length cs / 6) (bothAt cs N) ≡ bothTest (describe rs cs qs p) (members N)
 unfolding bothTest members ifBoth
-both-is rs cs qs N = all-cong (length cs / 6) _ _ (λ e _. kind e (entryOfFields (fieldsAt cs e)))
+both-is rs cs qs p N = all-cong (length cs / 6) _ _ (λ e _. kind e (entryOfFields (fieldsAt cs e)))
   where
     kind : (e : ℕ) (x : Entry) → ifBoth (λ a b. partsIn N e (code a) (code b)) x
         ≡ ifBoth (λ a b. (has N (2 * e) ⇒ (has N (code a) && has N (code b))) && (has N (2 * e + 1) ⇒ (has N (code (opposite a)) || has N (code (opposite b))))) x

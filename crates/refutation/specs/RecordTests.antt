@@ -2,7 +2,7 @@
 use Prim.Native.Nat.{ℕ, zero, suc, _*_, _-_, _^_, _≤_, _<_}
 use mathlib.Core.Path.{_≡_, refl, _∙_, subst}
 use mathlib.Core.Logic.{_↔_, _⊎_, inl, inr, Iff·rfl}
-use mathlib.Core.Bool.{Bool, true, false, _&&_, _||_, false≢true}
+use mathlib.Core.Bool.{Bool, true, false, cond, _&&_, _||_, false≢true}
 use mathlib.Core.List.{List}
 use mathlib.Core.Option.{Option, none, some}
 use lib.Dec.{eqb, leb, ltb}
@@ -16,10 +16,10 @@ use Rattle.counting.specs.Trees.{Tree, formed, depth, ValuesFit, treeTest}
 use Rattle.counting.specs.TreeLaws.{tree↔, fits-all}
 use Rattle.counting.specs.Rows.{limits, Closed, closedTest}
 use Rattle.description.specs.Literals.{Literal, pos, neg, opposite, code, entryOf, Label, members, adding, literalSet, plus, Within, in-table↔, within-members↔, members-adding, adding↔, literal-set↔, labelOf, members-labelOf}
-use Rattle.description.specs.Descriptions.{Description, isBoth, isBoth↔}
+use Rattle.description.specs.Descriptions.{Description, Compatible, compatible, compatible↔, isBoth, isBoth↔}
 use Rattle.description.specs.Acceptance.{Accepted}
-use Rattle.refutation.specs.Cells.{Row, rowOf, isRow, rowsOf, bounds, Known, known, known↔, rows-in, known-in}
-use Rattle.refutation.specs.Records.{Cell, unshown, cited, Counting, Step, contradiction, conjunction, disjunction, byRule, caseSplit, counting, asCounting, WhenCounting, Record, Refutation, recordAt, numberAt, cellAt, openAt, literalAt, FormOk, FormFits, Formed, CiteOk, StepOk, inLabel, CellOk, TreeOk, RecordOk, EndOk, Closes, RefutationLimits, StepValuesFit, RefutationFits}
+use Rattle.refutation.specs.Cells.{Row, rowOf, isRow, rowsOf, bounds, cellRole, Known, known, known↔, rows-in, known-in}
+use Rattle.refutation.specs.Records.{Cell, unshown, cited, barred, Counting, Step, contradiction, conjunction, disjunction, byRule, caseSplit, counting, asCounting, WhenCounting, Record, Refutation, recordAt, numberAt, cellAt, openAt, literalAt, FormOk, FormFits, Formed, CiteOk, StepOk, inLabel, CellFits, CellOk, TreeOk, RecordOk, EndOk, Closes, RefutationLimits, StepValuesFit, RefutationFits}
 
 -- no limits: lifted refutations
 abbrev pub anyRefutation : RefutationLimits
@@ -34,10 +34,11 @@ unfoldable pub whenCounting : (Counting → Bool) → Option Counting → Bool
 whenCounting p none = true
 whenCounting p (some K) = p K
 
--- a test of the record that a cell cites, which an open cell passes
+-- a test of the record that a cell cites, which any other cell passes
 unfoldable pub ifCited : (ℕ → Bool) → Cell → Bool
 ifCited p unshown = true
 ifCited p (cited j) = p j
+ifCited p barred = true
 
 -- 10
 abbrev pub formTest : RefutationLimits → Counting → Bool
@@ -47,6 +48,23 @@ formTest lim K = (leb 1 (length (K .rows)) && (eqb (suc (length (K .cells))) (2 
 -- the known label of cell c as a number: what one cell shows, under the label number N and with those row literals
 abbrev pub knownLabel : Description → ℕ → List Literal → ℕ → ℕ
 knownLabel D N lits c = labelOf (D .entries) (known D (members N) (rowsOf D lits) c)
+
+-- the answer for one cell: barred by its roles, or a known label
+pub data Answer : Type 0 where
+  byRoles : Answer
+  knows : ℕ → Answer
+
+abbrev pub answerFor : Description → ℕ → List Literal → ℕ → Answer
+answerFor D N lits c = cond (compatible D (cellRole D (rowsOf D lits) c)) (knows (knownLabel D N lits c)) byRoles
+
+-- 18, of a cell with that answer, where record j has the label number num j
+unfoldable pub cellFits : (ℕ → ℕ) → Answer → Cell → Bool
+cellFits num (knows M) unshown = true
+cellFits num (knows M) (cited j) = within (num j) M
+cellFits num (knows M) barred = false
+cellFits num byRoles unshown = false
+cellFits num byRoles (cited j) = false
+cellFits num byRoles barred = true
 
 module _ (D : Description) (num : ℕ → ℕ) (i N : ℕ) where
   -- 16
@@ -73,7 +91,7 @@ module _ (D : Description) (num : ℕ → ℕ) (i N : ℕ) where
   -- 18
   abbrev pub cellTest : Step → Bool
   cellTest s = whenCounting (λ K. allBelow (2 ^ length (K .rows)) (λ c.
-      ltb 0 c ⇒ ifCited (λ j. within (num j) (knownLabel D N (K .rows) c)) (cellAt (K .cells) c))) (asCounting s)
+      ltb 0 c ⇒ cellFits num (answerFor D N (K .rows) c) (cellAt (K .cells) c))) (asCounting s)
 
   -- 19
   abbrev pub closingTest : (ℕ → Bool) → Step → Bool
@@ -105,7 +123,7 @@ refutationRefusal lim D W C =
 -- ---- the tests say what the rules say
 pub ifCited↔ : (p : ℕ → Bool) (x : Cell) → So (ifCited p x) ↔ ((j : ℕ) → x ≡ cited j → So (p j))
 unfolding ifCited
-ifCited↔ p x = (λ h j e. subst (λ y. So (ifCited p y)) e h, elim x [ unshown ↦ λ h. refl | cited j ↦ λ h. h j refl ])
+ifCited↔ p x = (λ h j e. subst (λ y. So (ifCited p y)) e h, elim x [ unshown ↦ λ h. refl | cited j ↦ λ h. h j refl | barred ↦ λ h. refl ])
 
 -- a test of the counting steps tests what it tests of one
 pub whenCounting↔ : (p : Counting → Bool) (P : Counting → Type 0) → ((K : Counting) → So (p K) ↔ P K) → (o : Option Counting)
@@ -145,9 +163,23 @@ module _ (D : Description) (num : ℕ → ℕ) (i N : ℕ) where
     λ h l u. (known-in D A (members N) (rowsOf D lits) c (rows-in D A lits inside rows) l (h l u), h l u),
   )
 
+  fits↔ : Accepted D → (lits : List Literal) → ((l : Literal) → l ∈ lits → entryOf l < D .entries) → ((l : Literal) → l ∈ lits → So (isRow (rowOf D l)))
+      → (c : ℕ) (x : Cell) → So (cellFits num (answerFor D N lits c) x) ↔ CellFits D num i (members N) (rowsOf D lits) c x
+  unfolding cellFits
+  fits↔ A lits inside rows c x = go (compatible D (cellRole D (rowsOf D lits) c)) (compatible↔ D (cellRole D (rowsOf D lits) c)) x
+    where
+      go : (b : Bool) → So b ↔ Compatible D (cellRole D (rowsOf D lits) c) → (x : Cell)
+          → So (cellFits num (cond b (knows (knownLabel D N lits c)) byRoles) x) ↔ CellFits D num i (members N) (rowsOf D lits) c x
+      go true e unshown = (λ h. e .0 refl, λ h. refl)
+      go true e (cited j) = let w = shown↔ A lits inside rows c j in (λ h. (e .0 refl, w .0 h), λ h. w .1 (h .1))
+      go true e barred = (λ h. absurd (false≢true h), λ h. absurd (h (e .0 refl)))
+      go false e unshown = (λ h. absurd (false≢true h), λ h. e .1 h)
+      go false e (cited j) = (λ h. absurd (false≢true h), λ h. absurd (false≢true (e .1 (h .0))))
+      go false e barred = (λ h a. false≢true (e .1 a), λ h. refl)
+
   cell↔ : Accepted D → (s : Step) → CiteOk D num i (members N) s → StepOk D num i (members N) s → So (cellTest D num i N s) ↔ CellOk D num i (members N) s
   unfolding whenCounting
-  cell↔ A (counting K) n a = simp (listed, ifCited↔, shown↔ A (K .rows) (n .0) (λ l m. a .0 l m .1)) Iff·rfl
+  cell↔ A (counting K) n a = simp (listed, fits↔ A (K .rows) (n .0) (λ l m. a .0 l m .1)) Iff·rfl
   cell↔ A (contradiction l) n a = (λ h. tt, λ h. refl)
   cell↔ A (conjunction e c) n a = (λ h. tt, λ h. refl)
   cell↔ A (disjunction e c d) n a = (λ h. tt, λ h. refl)

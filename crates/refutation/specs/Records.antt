@@ -12,13 +12,14 @@ use Rattle.logic.specs.Lists.{_∈_}
 use Rattle.counting.specs.Trees.{Tree, formed, depth, ValuesFit}
 use Rattle.counting.specs.Rows.{Closed}
 use Rattle.description.specs.Literals.{Literal, pos, neg, opposite, code, entryOf, sameLiteral, Label, members, plus, Within, InTable}
-use Rattle.description.specs.Descriptions.{both, Description}
-use Rattle.refutation.specs.Cells.{rowOf, isRow, rowsOf, bounds, Known}
+use Rattle.description.specs.Descriptions.{both, Description, Compatible}
+use Rattle.refutation.specs.Cells.{Row, rowOf, isRow, rowsOf, bounds, cellRole, Known}
 
--- a cell is open, or a record shows it empty
+-- a cell is open, or a record shows it empty, or its roles do
 pub data Cell : Type 0 where
   unshown : Cell
   cited : ℕ → Cell
+  barred : Cell
 
 -- step 6: the row literals, a cell for each number below 2^k but 0, the tree
 pub record Counting : Type 0 where
@@ -69,6 +70,7 @@ cellAt cells c = getD cells (c - 1) unshown
 abbrev pub isOpen : Cell → Bool
 isOpen unshown = true
 isOpen (cited j) = false
+isOpen barred = false
 
 abbrev pub openAt : List Cell → ℕ → Bool
 openAt cells c = isOpen (cellAt cells c)
@@ -115,10 +117,15 @@ module _ (D : Description) (num : ℕ → ℕ) (i : ℕ) (L : Label) where
   StepOk (counting K) = ((l : Literal) → l ∈ K .rows → So (L l) × So (isRow (rowOf D l)))
       × ((j : ℕ) → j < length (K .rows) → suc j < length (K .rows) → code (literalAt (K .rows) j) < code (literalAt (K .rows) (suc j)))
 
-  -- 18: a cell is shown empty by a label that all its fillers would have
+  -- 18, of cell c: it is marked as barred exactly if its roles cannot be those of one pair; a record that shows another empty has a label
+  -- that all its fillers would have
+  abbrev pub CellFits : List Row → ℕ → Cell → Type 0
+  CellFits rows c unshown = Compatible D (cellRole D rows c)
+  CellFits rows c (cited j) = Compatible D (cellRole D rows c) × ((l : Literal) → So (members (num j) l) → Known D L rows c l)
+  CellFits rows c barred = Compatible D (cellRole D rows c) → ⊥
+
   abbrev pub CellOk : Step → Type 0
-  CellOk s = WhenCounting (λ K. (c : ℕ) → c < 2 ^ length (K .rows) → 0 < c → (j : ℕ) → cellAt (K .cells) c ≡ cited j
-      → (l : Literal) → So (members (num j) l) → Known D L (rowsOf D (K .rows)) c l) (asCounting s)
+  CellOk s = WhenCounting (λ K. (c : ℕ) → c < 2 ^ length (K .rows) → 0 < c → CellFits (rowsOf D (K .rows)) c (cellAt (K .cells) c)) (asCounting s)
 
   -- 19: the tree closes the rows over the open cells
   abbrev pub TreeOk : Step → Type 0

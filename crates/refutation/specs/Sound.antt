@@ -17,12 +17,12 @@ use Rattle.counting.specs.Trees.{Side, lower, upper, Meets}
 use Rattle.counting.specs.Rows.{boundAt, Fillers}
 use Rattle.counting.specs.Solutions.{closed-no-fillers}
 use Rattle.description.specs.Literals.{Literal, pos, neg, opposite, entryOf, sameLiteral, same-literal, Label, members, plus, Within}
-use Rattle.description.specs.Descriptions.{Entry, top, name, both, every, atLeast, Description}
+use Rattle.description.specs.Descriptions.{Entry, top, name, both, every, atLeast, Description, Compatible}
 use Rattle.description.specs.Acceptance.{Accepted}
 use Rattle.interpretation.specs.Meaning.{Interpretation, truth, holds}
 use Rattle.interpretation.specs.Models.{Model, Satisfies, AllTrue, plus-true, opposite-true, role-up, top-true, both-true, every-true, least-true, every-false}
 use Rattle.refutation.specs.Cells.{Row, positiveRow, negativeRow, rowOf, isRow, rowFrom, rowsOf, rowAt, bounds, cellRole, Known, topmost, qualified, denied, passed, onward, length-rows, length-bounds, bound-at, row-at, rows-in, RowIn}
-use Rattle.refutation.specs.Records.{Cell, unshown, cited, Counting, Step, contradiction, conjunction, disjunction, byRule, caseSplit, counting, Refutation, recordAt, numberAt, cellAt, openAt, isOpen, literalAt, CiteOk, StepOk, Cites, inLabel, CellOk, TreeOk, RecordOk, Closes}
+use Rattle.refutation.specs.Records.{Cell, unshown, cited, barred, Counting, Step, contradiction, conjunction, disjunction, byRule, caseSplit, counting, Refutation, recordAt, numberAt, cellAt, openAt, isOpen, literalAt, CiteOk, StepOk, Cites, inLabel, CellFits, CellOk, TreeOk, RecordOk, Closes}
 
 -- no element of any model has all of L
 abbrev pub Refuted : Description → Label → Type 0
@@ -91,10 +91,15 @@ module _ (D : Description) (A : Accepted D) (I : Interpretation) (M : Model D I)
       (λ z hz u. every-true D A I e x r q he qe .0 (all (pos e) p) z hz
       (role-up D A I M t r x z ht a hx hz (M .transitivity t ht tr x hx y hy (has-role y t hy c) z hz u)))
 
+  -- so its cell's roles are those of one pair
+  cell-compatible : (y : ℕ) → y < I .size → Compatible D (cellRole D rows (cellOf y))
+  cell-compatible y hy i h p q = M .disjointness x hx y hy i h (has-role y _ hy p) (has-role y _ hy q)
+
   -- so they are fillers that meet every row, if no element is known to be in a cell that is not open
   pub as-fillers : ((i : ℕ) → i < length rows → Meets (rowAt rows i .side) (rowAt rows i .bound) (countBelow (I .size) (inRow D I x (rowAt rows i))))
       → (open? : ℕ → Bool)
-      → ((c : ℕ) → c < 2 ^ length rows → 0 < c → (So (open? c) → ⊥) → (y : ℕ) → y < I .size → ((l : Literal) → Known D L rows c l → So (holds D I l y)) → ⊥)
+      → ((c : ℕ) → c < 2 ^ length rows → 0 < c → (So (open? c) → ⊥) → Compatible D (cellRole D rows c)
+      → (y : ℕ) → y < I .size → ((l : Literal) → Known D L rows c l → So (holds D I l y)) → ⊥)
       → Fillers (bounds rows) open?
   unfolding counts cellOf
   as-fillers met open? empty = record {
@@ -106,7 +111,7 @@ module _ (D : Description) (A : Accepted D) (I : Interpretation) (M : Model D I)
     where
       opened : (y : ℕ) → y < I .size → 0 < cellOf y → So (open? (cellOf y)) ⊎ (So (open? (cellOf y)) → ⊥) → So (open? (cellOf y))
       opened y hy p (inl u) = u
-      opened y hy p (inr u) = absurd (empty (cellOf y) (setOf-lt (length rows) (counts y)) p u y hy (known-true y hy))
+      opened y hy p (inr u) = absurd (empty (cellOf y) (setOf-lt (length rows) (counts y)) p u (cell-compatible y hy) y hy (known-true y hy))
 
 -- ---- one record, from the records before it
 module _ (D : Description) (A : Accepted D) (num : ℕ → ℕ) (i : ℕ) (L : Label) (before : (j : ℕ) → j < i → Refuted D (members (num j))) where
@@ -133,15 +138,16 @@ module _ (D : Description) (A : Accepted D) (num : ℕ → ℕ) (i : ℕ) (L : L
           let m = at-member (K .rows) (pos 0) j g in
           rw (row-at D (K .rows) j g) (row-met D A I x l (n .0 l m) (a .0 l m .1) (all l (a .0 l m .0)))
 
-      cell : (c : ℕ) → (v : Cell) → cellAt (K .cells) c ≡ v → (So (isOpen v) → ⊥) → (j : ℕ) × (cellAt (K .cells) c ≡ cited j)
-      cell c unshown q o = absurd (o refl)
-      cell c (cited j) q o = (j, q)
-
-      empty : (c : ℕ) → c < 2 ^ length rows → 0 < c → (So (openAt (K .cells) c) → ⊥) → (y : ℕ) → y < I .size → ((l : Literal) → Known D L rows c l → So (holds D I l y)) → ⊥
-      empty c h p o y hy t =
+      empty : (c : ℕ) → c < 2 ^ length rows → 0 < c → (So (openAt (K .cells) c) → ⊥) → Compatible D (cellRole D rows c)
+          → (y : ℕ) → y < I .size → ((l : Literal) → Known D L rows c l → So (holds D I l y)) → ⊥
+      empty c h p o free y hy t =
           let g : c < 2 ^ length (K .rows) = rw (length-rows D (K .rows)) at h in
-          let w = cell c (cellAt (K .cells) c) refl o in
-          before (w .0) (n .1 c g p (w .0) (w .1)) I M y hy (λ l u. t l (s c g p (w .0) (w .1) l u))
+          shut (cellAt (K .cells) c) (λ j q. n .1 c g p j q) (s c g p) o
+        where
+          shut : (v : Cell) → ((j : ℕ) → v ≡ cited j → j < i) → CellFits D num i L rows c v → (So (isOpen v) → ⊥) → ⊥
+          shut unshown earlier fits o = o refl
+          shut (cited j) earlier fits o = before j (earlier j refl) I M y hy (λ l u. t l (fits .1 l u))
+          shut barred earlier fits o = fits free
 
   pub record-sound : (s : Step) → RecordOk D num i L s → Refuted D L
   record-sound (contradiction l) ok I M x hx all =

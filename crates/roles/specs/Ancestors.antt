@@ -4,6 +4,7 @@ use mathlib.Core.Path.{_≡_, refl, sym, _∙_, ap, subst}
 use mathlib.Core.Logic.{_⊎_, inl, inr}
 use mathlib.Core.Bool.{Bool, true, false, cond, not, _&&_, _||_, or-false, false≢true}
 use mathlib.Core.List.{List}
+use mathlib.Core.Option.{Option}
 use native.Mathlib.Omega.{arith}
 use lib.Bits.{bitOr}
 use native.Mathlib.Nat.{mod-eq-of-lt, one-mul}
@@ -93,9 +94,9 @@ pub pass-on : (rs : List ℕ) (k m x y : ℕ) → k < 16 → x ≡ passed rs k m
 pass-on rs k m x y h p q = rw (p, q, add-one k) (joined-passed rs k m h)
 
 -- of at most 16 roles, the masks are the ancestors
-pub ancestor-masks : (rs cs qs a : List ℕ) → AncestorsOf rs a → length rs / 3 ≤ 16 → (i : ℕ) → i < 16 → getD a i 0 ≡ ancestorMask (describe rs cs qs) i
+pub ancestor-masks : (rs cs qs : List ℕ) (p : Option (List ℕ)) (a : List ℕ) → AncestorsOf rs a → length rs / 3 ≤ 16 → (i : ℕ) → i < 16 → getD a i 0 ≡ ancestorMask (describe rs cs qs p) i
 unfolding ancestor
-ancestor-masks rs cs qs a h few i l = h i l ∙ rw (up-to-all 16 (length rs / 3) few) (setOf-cong 16 _ _ (λ j _. closure-own (length rs / 3) (included (describe rs cs qs)) i j))
+ancestor-masks rs cs qs p a h few i l = h i l ∙ rw (up-to-all 16 (length rs / 3) few) (setOf-cong 16 _ _ (λ j _. closure-own (length rs / 3) (included (describe rs cs qs p)) i j))
 
 -- ---- roles that are not simple: the ancestors of the transitive ones
 module _ (rs a : List ℕ) where
@@ -121,13 +122,13 @@ module _ (rs a : List ℕ) where
       go false z = stays t x p z
 
   -- of at most 16 roles, they are those that are not simple
-  pub not-simple : (cs qs : List ℕ) → AncestorsOf rs a → length rs / 3 ≤ 16 → aboveTransitive rs a (roleCount rs) ≡ complexMask (describe rs cs qs)
+  pub not-simple : (cs qs : List ℕ) (p : Option (List ℕ)) → AncestorsOf rs a → length rs / 3 ≤ 16 → aboveTransitive rs a (roleCount rs) ≡ complexMask (describe rs cs qs p)
   unfolding simple
-  not-simple cs qs anc few = rw (up-to-all 16 (length rs / 3) few) (setOf-cong 16 _ _ (λ s l. any-cong n _ _ (λ t h. ap (λ m. D .transitive t && has m s) (ancestor-masks rs cs qs a anc few t (omega arith))
+  not-simple cs qs p anc few = rw (up-to-all 16 (length rs / 3) few) (setOf-cong 16 _ _ (λ s l. any-cong n _ _ (λ t h. ap (λ m. D .transitive t && has m s) (ancestor-masks rs cs qs p a anc few t (omega arith))
       ∙ ap (λ b. D .transitive t && b) (has-setOf 16 (ancestor D t) s l)) ∙ some-above s))
     where
       D : Description
-      D = describe rs cs qs
+      D = describe rs cs qs p
 
       n : ℕ
       n = length rs / 3

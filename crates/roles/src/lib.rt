@@ -1,13 +1,17 @@
 // The role records: each role with its transitive byte, its parents, its ancestors, and whether it is simple.
+pub mod disjoint;
+
 ghost use mathlib.Core.Path.{_≡_};
 ghost use mathlib.Core.Bool.{cond};
 ghost use lib.Bits.{bitOr};
-ghost use lib.Dec.{eqb};
-ghost use Prim.Native.Nat.{ℕ, _+_, _*_, _/_, _<_, _≤_};
+ghost use lib.Dec.{eqb, ltb};
+ghost use Prim.Native.Nat.{ℕ, _+_, _-_, _*_, _/_, _<_, _≤_};
 ghost use lib.ListN.{getD};
 ghost use Rattle.logic.specs.Sets.{has, narrow};
 ghost use Rattle.roles.specs.Ancestors.{AncestorsOf, roleCount, passed, joined, aboveTransitive};
-ghost use Rattle.roles.specs.Records.{recordWith, roleTable, carrier, maskOf, roleMasks};
+ghost use Rattle.roles.specs.Records.{recordWith, roleTable, roleAt, carrier, maskOf, roleMasks};
+use disjoint::disjoint_count;
+use disjoint::pair_mask;
 use parts::byte;
 use parts::mask2;
 use parts::up_to;
@@ -166,10 +170,10 @@ fn carrier_of(x: Role) -> u16
     if x.transitive == 1 { x.ancestors } else { 0 }
 }
 
-// Mask `i` of those that evidence asks for.
-fn mask_of(t: [Role; 16], i: u8) -> u16
+// Mask `i` of those that role records give.
+fn role_mask(t: [Role; 16], i: u8) -> u16
     requires { ⌜ i < 32 ⌝ }
-    ensures { λ r. ⌜ r ≡ maskOf t i ⌝ }
+    ensures { λ r. ⌜ r ≡ cond (ltb i 16) (roleAt t i .ancestors) (carrier (roleAt t (i - 16))) ⌝ }
 {
     if i < 16 {
         let x = t[i as usize];
@@ -180,15 +184,31 @@ fn mask_of(t: [Role; 16], i: u8) -> u16
     }
 }
 
-// The masks that evidence asks for: the ancestors of each role, and behind them those of each transitive role, none for the others. An
-// array of numbers can be lent; a table of records would be copied for each call.
-pub fn role_masks(t: [Role; 16]) -> [u16; 32]
-    ensures { λ r. ⌜ r ≡ roleMasks t ⌝ }
+// Mask `i` of those that evidence asks for.
+fn mask_of(t: [Role; 16], ps: &[u8], i: u8) -> u16
+    requires { ⌜ i < 49 ⌝ }
+    ensures { λ r. ⌜ r ≡ maskOf t (now (ps .entry)) i ⌝ }
 {
-    let mut out: [u16; 32] = [0; 32];
+    if i < 32 {
+        return role_mask(t, i);
+    }
+    if i < 48 {
+        pair_mask(ps, i - 32)
+    } else {
+        disjoint_count(ps) as u16
+    }
+}
+
+// The masks that evidence asks for: the ancestors of each role; behind them those of each transitive role, none for the others; then the two
+// roles of each record of the part `ps`; last the number of these records. An array of numbers can be lent; a table of records would be
+// copied for each call.
+pub fn role_masks(t: [Role; 16], ps: &[u8]) -> [u16; 49]
+    ensures { λ r. ⌜ r ≡ roleMasks t (now (ps .entry)) ⌝ }
+{
+    let mut out: [u16; 49] = [0; 49];
     let mut i: u8 = 0;
-    while i < 32 {
-        out[i as usize] = mask_of(t, i);
+    while i < 49 {
+        out[i as usize] = mask_of(t, ps, i);
         i += 1;
     }
     out

@@ -1,13 +1,13 @@
 -- Rows as the code holds them: at most six in an array (01, "The counting step"; FORMAT 6).
-use Prim.Native.Nat.{ℕ, zero, suc, _+_, _-_, _/_, _%_, _<_, _≤_}
+use Prim.Native.Nat.{ℕ, zero, suc, _+_, _-_, _<_, _≤_}
 use mathlib.Core.Path.{_≡_, refl, sym, _∙_, ap, ap₂}
 use mathlib.Core.Bool.{Bool, true, false, cond}
 use mathlib.Core.List.{List, [], _∷_}
 use mathlib.Core.Option.{Option, none, some}
 use native.Mathlib.Omega.{arith}
-use native.Mathlib.Decide.{decLe, decLt}
+use native.Mathlib.Decide.{decLt}
 use borrow.Author.Tests.{lt-ltb, le-ltb}
-use lib.Dec.{eqb, ltb}
+use lib.Dec.{ltb}
 use lib.ListN.{getD, take, replicate}
 use lib.Seq.{getD-take}
 use Rattle.logic.specs.Lists.{tabulate}
@@ -15,7 +15,7 @@ use Rattle.logic.specs.Refusals.{unless}
 use Rattle.parts.specs.Numbers.{byteAt, upTo, up-to-all}
 use Rattle.counting.specs.Trees as Counting
 use Rattle.description.specs.Literals.{Literal, pos, neg, literal, code, literal-code}
-use Rattle.description.specs.Descriptions.{Entry, top, name, both, every, atLeast, entryOfFields}
+use Rattle.description.specs.Descriptions.{Entry, top, name, both, every, atLeast, Description, entryOfFields}
 use Rattle.refutation.specs.Cells as Theory
 use Rattle.refutation.specs.Cells.{rowOf, rowFrom, rowsOf}
 use Rattle.tables.specs.Tables.{fieldsAt, describe}
@@ -34,6 +34,10 @@ use Rattle.tables.specs.declared.Side.the-variants.{Lower, Upper}
 use Rattle.rows.specs.declared.Row.{Row}
 use Rattle.rows.specs.declared.RowOf.{RowOf}
 use Rattle.rows.specs.declared.RowOf.the-variants.{Is, Nothing}
+
+-- entries and a query without roles: what a step names, and which rows literals give, is told by these alone
+abbrev pub withoutRoles : List ℕ → List ℕ → Description
+withoutRoles cs qs = describe [] cs qs none
 
 -- a side as the code's, and back
 abbrev pub heldSide : Counting.Side → Side
@@ -85,7 +89,7 @@ rowsHeld rows k = tabulate k (λ i. given (heldAt rows i))
 
 -- row i of the step ds
 abbrev pub rowIn : List ℕ → List ℕ → ℕ → Row
-rowIn cs ds i = held (rowFrom (rowOf (describe [] cs []) (literal (byteAt ds (2 + i)))))
+rowIn cs ds i = held (rowFrom (rowOf (withoutRoles cs []) (literal (byteAt ds (2 + i)))))
 
 -- the row that a concept gives: a count its own
 abbrev pub countRow : Concept → RowOf
@@ -108,18 +112,19 @@ conceptRow (LiteralConcept.Is c) = countRow c
 conceptRow (Not c) = someRow c
 
 -- ---- the rows of literals are told by the entries alone
-pub row-same : (rs cs qs : List ℕ) (l : Literal) → rowOf (describe [] cs []) l ≡ rowOf (describe rs cs qs) l
-row-same rs cs qs (pos e) = refl
-row-same rs cs qs (neg e) = refl
+pub row-same : (rs cs qs : List ℕ) (p : Option (List ℕ)) (l : Literal) → rowOf (withoutRoles cs []) l ≡ rowOf (describe rs cs qs p) l
+row-same rs cs qs p (pos e) = refl
+row-same rs cs qs p (neg e) = refl
 
-pub rows-same : (rs cs qs : List ℕ) (lits : List Literal) → rowsOf (describe [] cs []) lits ≡ rowsOf (describe rs cs qs) lits
+pub rows-same : (rs cs qs : List ℕ) (p : Option (List ℕ)) (lits : List Literal)
+    → rowsOf (withoutRoles cs []) lits ≡ rowsOf (describe rs cs qs p) lits
 unfolding rowsOf
-rows-same rs cs qs [] = refl
-rows-same rs cs qs (l ∷ lits) = ap₂ (λ o rows. rowFrom o ∷ rows) (row-same rs cs qs l) (rows-same rs cs qs lits)
+rows-same rs cs qs p [] = refl
+rows-same rs cs qs p (l ∷ lits) = ap₂ (λ o rows. rowFrom o ∷ rows) (row-same rs cs qs p l) (rows-same rs cs qs p lits)
 
 -- ---- laws for the row of a literal
 -- the concept of a literal gives the literal's row
-concept-row : (cs : List ℕ) (l : Literal) → conceptRow (literalConcept cs l) ≡ heldRow (rowOf (describe [] cs []) l)
+concept-row : (cs : List ℕ) (l : Literal) → conceptRow (literalConcept cs l) ≡ heldRow (rowOf (withoutRoles cs []) l)
 unfolding conceptOf
 concept-row cs (pos e) = go (entryOfFields (fieldsAt cs e))
   where
@@ -139,8 +144,9 @@ concept-row cs (neg e) = go (entryOfFields (fieldsAt cs e))
     go (atLeast r l n) = refl
 
 pub row-read : (cs : List ℕ) (l : ℕ) (x : RowOf) (c d : LiteralConcept) → c ≡ literalConcept cs (literal l) → c ≡ d → x ≡ conceptRow d
-    → (x ≡ heldRow (rowOf (describe [] cs []) (literal l))) × (rowRefusal x ≡ unless (there (rowOf (describe [] cs []) (literal l))) 17 none)
-row-read cs l x c d p q e = row-told (rowOf (describe [] cs []) (literal l)) x (e ∙ ap conceptRow (sym q ∙ p) ∙ concept-row cs (literal l))
+    → (x ≡ heldRow (rowOf (withoutRoles cs []) (literal l)))
+    × (rowRefusal x ≡ unless (there (rowOf (withoutRoles cs []) (literal l))) 17 none)
+row-read cs l x c d p q e = row-told (rowOf (withoutRoles cs []) (literal l)) x (e ∙ ap conceptRow (sym q ∙ p) ∙ concept-row cs (literal l))
 
 -- the bound of a count that was read
 pub bound-few : (c d : LiteralConcept) → boundOf c < 65536 → c ≡ d → boundOf d < 65536
@@ -158,10 +164,10 @@ some-made r l q e = rw e refl
 -- row i of the step, where its literal gives a row, and where it gives none
 module _ (cs ds : List ℕ) (i l : ℕ) (p : l ≡ byteAt ds (2 + i)) where
   abbrev found : Option Theory.Row
-  found = rowOf (describe [] cs []) (literal l)
+  found = rowOf (withoutRoles cs []) (literal l)
 
   at-step : held (rowFrom found) ≡ rowIn cs ds i
-  at-step = ap (λ m. held (rowFrom (rowOf (describe [] cs []) (literal m)))) p
+  at-step = ap (λ m. held (rowFrom (rowOf (withoutRoles cs []) (literal m)))) p
 
   pub in-row : (y : RowOf) (x : Row) → y ≡ heldRow found → y ≡ Is x → x ≡ rowIn cs ds i
   in-row y x e q = is found (sym q ∙ e) ∙ at-step
@@ -201,12 +207,14 @@ given-held R = same (R .role) (R .bound) _ _ _ _ (literal-code (R .qualifier)) (
 
 -- an array that holds the first k rows of the step
 pub rows-held : (cs ds : List ℕ) (rows : List Row) (k : ℕ) → k ≤ 6 → ((i : ℕ) → i < k → getD rows i noRow ≡ rowIn cs ds i)
-    → rowsHeld rows k ≡ rowsOf (describe [] cs []) (bytesAt literal ds 2 k)
+    → rowsHeld rows k ≡ rowsOf (withoutRoles cs []) (bytesAt literal ds 2 k)
 unfolding rowsOf tabulate
 rows-held cs ds rows k few e = go k (λ i. given (heldAt rows i)) (λ i. literal (byteAt ds (2 + i)))
-    (λ i h. ap given (sym (at-held rows i (rowIn cs ds i) (omega arith) (sym (e i h)))) ∙ given-held (rowFrom (rowOf (describe [] cs []) (literal (byteAt ds (2 + i))))))
+    (λ i h. ap given (sym (at-held rows i (rowIn cs ds i) (omega arith) (sym (e i h))))
+    ∙ given-held (rowFrom (rowOf (withoutRoles cs []) (literal (byteAt ds (2 + i))))))
   where
-    go : (k : ℕ) (f : ℕ → Theory.Row) (g : ℕ → Literal) → ((i : ℕ) → i < k → f i ≡ rowFrom (rowOf (describe [] cs []) (g i))) → tabulate k f ≡ rowsOf (describe [] cs []) (tabulate k g)
+    go : (k : ℕ) (f : ℕ → Theory.Row) (g : ℕ → Literal) → ((i : ℕ) → i < k → f i ≡ rowFrom (rowOf (withoutRoles cs []) (g i)))
+        → tabulate k f ≡ rowsOf (withoutRoles cs []) (tabulate k g)
     go zero f g h = refl
     go (suc k) f g h = ap₂ _∷_ (h 0 (omega arith)) (go k (λ i. f (suc i)) (λ i. g (suc i)) (λ i l. h (suc i) (omega arith)))
 

@@ -7,11 +7,10 @@ ghost use lib.ListN.{length, getD, take};
 ghost use Rattle.logic.specs.Refusals.{unless};
 ghost use Rattle.description.specs.Literals.{literal};
 ghost use Rattle.tables.specs.Concepts.{boundIn};
-ghost use Rattle.tables.specs.Tables.{describe};
 ghost use Rattle.parts.specs.Numbers.{upTo};
 ghost use Rattle.list_form.specs.ListForm.{bytesAt};
 ghost use Rattle.refutation.specs.Cells.{rowOf, rowsOf};
-ghost use Rattle.rows.specs.HeldRows.{noRow, heldAt, firstAt, heldRow, rowRefusal, there, countRow, someRow, rowsHeld, rowIn};
+ghost use Rattle.rows.specs.HeldRows.{withoutRoles, noRow, heldAt, firstAt, heldRow, rowRefusal, there, countRow, someRow, rowsHeld, rowIn};
 use nodes::opposite;
 use parts::byte;
 use parts::up_to;
@@ -92,7 +91,8 @@ fn some_row(c: Concept) -> RowOf
 
 // The row that literal `l` gives.
 pub fn row_of(cs: &[u8], l: u8) -> RowOf
-    ensures { λ r. ⌜ (r ≡ heldRow (rowOf (describe [] (now (cs .entry)) []) (literal l))) × (rowRefusal r ≡ unless (there (rowOf (describe [] (now (cs .entry)) []) (literal l))) 17 none) ⌝ }
+    ensures { λ r. ⌜ (r ≡ heldRow (rowOf (withoutRoles (now (cs .entry)) []) (literal l)))
+        × (rowRefusal r ≡ unless (there (rowOf (withoutRoles (now (cs .entry)) []) (literal l))) 17 none) ⌝ }
 {
     let concept = literal_concept(cs, l);
     match concept {
@@ -127,7 +127,8 @@ fn row_in(cs: &[u8], ds: &[u8], i: usize) -> Row
 
 // The first `k` rows of the step `ds`, or 6 if there are more; none behind them.
 pub fn rows_of(cs: &[u8], ds: &[u8], k: u8) -> [Row; 6]
-    ensures { λ r. ⌜ (rowsHeld r (upTo 6 k) ≡ rowsOf (describe [] (now (cs .entry)) []) (bytesAt literal (now (ds .entry)) 2 (upTo 6 k))) × ((i : ℕ) → upTo 6 k ≤ i → heldAt r i ≡ noRow) ⌝ }
+    ensures { λ r. ⌜ (rowsHeld r (upTo 6 k) ≡ rowsOf (withoutRoles (now (cs .entry)) []) (bytesAt literal (now (ds .entry)) 2 (upTo 6 k)))
+        × ((i : ℕ) → upTo 6 k ≤ i → heldAt r i ≡ noRow) ⌝ }
 {
     let n = up_to(6, k as usize) as usize;
     let mut rows = [no_row(); 6];

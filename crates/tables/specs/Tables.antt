@@ -1,9 +1,10 @@
--- The description that three parts are: roles, concepts and query (FORMAT 2).
+-- The description that its parts are: roles, concepts, query and, where there is a fourth, roles that never share a filler (FORMAT 2).
 use Prim.Native.Nat.{ℕ, zero, suc, _+_, _-_, _*_, _/_, _<_}
 use mathlib.Core.Path.{_≡_, refl, sym, subst}
 use mathlib.Core.Logic.{_↔_}
-use mathlib.Core.Bool.{Bool, false, _&&_, false≢true}
-use mathlib.Core.List.{List}
+use mathlib.Core.Bool.{Bool, true, false, _&&_, false≢true}
+use mathlib.Core.List.{List, []}
+use mathlib.Core.Option.{Option, none, some}
 use native.Mathlib.Omega.{arith}
 use lib.Dec.{eqb, leb, ltb}
 use lib.ListN.{length}
@@ -11,7 +12,7 @@ use Rattle.logic.specs.Tests.{So, reading}
 use Rattle.parts.specs.Numbers.{byteAt, num2, upTo}
 use Rattle.labels.specs.Labels.{mostEntries}
 use Rattle.description.specs.Literals.{literal, entryOf, code-literal, code-entry}
-use Rattle.description.specs.Descriptions.{Entry, top, name, both, every, atLeast, Description, Fields, fieldsOf, entryOfFields}
+use Rattle.description.specs.Descriptions.{Entry, top, name, both, every, atLeast, Disjoint, Description, Fields, fieldsOf, entryOfFields}
 use Rattle.description.specs.Acceptance.{greatestNumber, EntryOk}
 
 -- the number of entries of the part cs, at most the most that a table has
@@ -28,8 +29,21 @@ fieldsAt cs e = record {
   number = num2 cs (6 * e + 4);
 }
 
-abbrev pub describe : List ℕ → List ℕ → List ℕ → Description
-describe rs cs qs = record {
+-- the records of the fourth part; with three parts there are none
+abbrev pub recordsIn : Option (List ℕ) → List ℕ
+recordsIn none = []
+recordsIn (some ps) = ps
+
+abbrev pub isThere : Option (List ℕ) → Bool
+isThere none = false
+isThere (some ps) = true
+
+-- record i of two roles
+abbrev pub disjointAt : List ℕ → ℕ → Disjoint
+disjointAt ps i = record { one = byteAt ps (2 * i); other = byteAt ps (2 * i + 1) }
+
+abbrev pub describe : List ℕ → List ℕ → List ℕ → Option (List ℕ) → Description
+describe rs cs qs p = record {
   roles = length rs / 3;
   transitive = λ r. eqb (byteAt rs (3 * r)) 1;
   parents = λ r. num2 rs (3 * r + 1);
@@ -38,7 +52,14 @@ describe rs cs qs = record {
   root = literal (byteAt qs 0);
   rules = length qs - 1;
   rule = λ i. literal (byteAt qs (i + 1));
+  disjoints = length (recordsIn p) / 2;
+  disjoint = disjointAt (recordsIn p);
+  fourth = isThere p;
 }
+
+-- a fourth part may have no record
+pub empty-part : (rs cs qs : List ℕ) → (describe rs cs qs (some []) .disjoints ≡ 0) × (describe rs cs qs (some []) .fourth ≡ true)
+empty-part rs cs qs = (refl, refl)
 
 -- 4, on fields: they are the fields of an entry that keeps its rule, so the kind is known and unused fields are 0
 abbrev pub FieldsOk : Description → ℕ → Fields → Type 0

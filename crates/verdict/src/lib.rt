@@ -8,6 +8,7 @@ use answers::Tested;
 use answers::Verdict;
 use graph_check::test_sample;
 use intake::concepts_part;
+use intake::has_four;
 use intake::open_description;
 use intake::query_part;
 use list_check::test_list;
@@ -30,12 +31,12 @@ fn told(t: Tested, list: bool) -> Verdict
     }
 }
 
-// The verdict on an opened description with evidence, by the masks of so many roles.
-fn check_opened(m: &[u16; 32], roles: u8, cs: &[u8], qs: &[u8], s: &[u8]) -> Verdict
-    ensures { λ r. ⌜ ofVerdict r ≡ openedVerdict (now (m .entry)) roles (now (cs .entry)) (now (qs .entry)) (now (s .entry)) ⌝ }
+// The verdict on an opened description with evidence, by the masks of so many roles; `marks` tells whether there is a fourth part.
+fn check_opened(m: &[u16; 49], roles: u8, cs: &[u8], qs: &[u8], s: &[u8], marks: bool) -> Verdict
+    ensures { λ r. ⌜ ofVerdict r ≡ openedVerdict marks (now (m .entry)) roles (now (cs .entry)) (now (qs .entry)) (now (s .entry)) ⌝ }
 {
     if byte(s, 0) == 2 {
-        return told(test_list(m, cs, qs, root_set(qs), s), true);
+        return told(test_list(m, cs, qs, root_set(qs), s, marks), true);
     }
     told(test_sample(m, roles, cs, qs, s), false)
 }
@@ -48,7 +49,7 @@ pub fn check_evidence(d: &[u8], s: &[u8]) -> Verdict
     let tested = o.tested;
     let m = o.masks;
     match tested {
-        Tested::Fine => check_opened(&m, o.count, concepts_part(d), query_part(d), s),
+        Tested::Fine => check_opened(&m, o.count, concepts_part(d), query_part(d), s, has_four(d)),
         Tested::Refused(n, r) => Verdict::Refused(n, r),
     }
 }

@@ -31,7 +31,7 @@ pub(super) fn roles(r: &mut Random) -> Vec<Role> {
 
 /// What is joined in the root: a number (counts only), a role and a literal.
 #[derive(Clone, Copy)]
-enum Part {
+pub(super) enum Part {
     AtLeast(usize, usize, Literal),
     AtMost(usize, usize, Literal),
     Some(usize, Literal),
@@ -48,22 +48,29 @@ impl Maker<'_> {
     }
 
     fn rows_that_share(&mut self) -> Option<()> {
-        let mut pool = Vec::new();
-        for _ in 0..self.r.range(2, 4) {
-            pool.push(self.entry(Concept::Name)?);
-        }
+        let pool = self.some_names()?;
         let (lower, upper) = self.below_and_above()?;
         let (l, number) = (self.r.pick(&pool), self.some_number().min(999));
         // Not a count and its own complement: those would clash without a counting step.
-        let mut parts = vec![
+        let parts = vec![
             Part::AtLeast(number + 1, lower, l),
             Part::AtMost(number - 1, upper, l),
         ];
+        self.with_others(parts, &pool)
+    }
+
+    pub(super) fn some_names(&mut self) -> Option<Vec<Literal>> {
+        let count = self.r.range(2, 4);
+        (0..count).map(|_| self.entry(Concept::Name)).collect()
+    }
+
+    /// A root that joins these parts with some others, which need not be met.
+    pub(super) fn with_others(&mut self, mut parts: Vec<Part>, pool: &[Literal]) -> Option<()> {
         for _ in 0..self.r.range(1, 4) {
-            parts.push(self.row_beside(&pool));
+            parts.push(self.row_beside(pool));
         }
         for _ in 0..self.r.range(1, 4) {
-            let (role, l) = (self.role(), self.r.pick(&pool));
+            let (role, l) = (self.role(), self.r.pick(pool));
             parts.push(Part::Every(role, self.either(l)));
         }
         // Entries are numbered, and rows ordered, as they come.

@@ -78,7 +78,9 @@ impl Maker<'_> {
 
     /// The items of a description in any order in which they go, or tables first. Gives its bytes.
     pub(super) fn replayed(&mut self) -> Vec<u8> {
-        let description = descriptions::random(self.r);
+        let mut description = descriptions::random(self.r);
+        // The editor has no operation for a fourth part.
+        description.apart = None;
         let mut queues = items(&description);
         self.r.shuffle(&mut queues[INCLUSIONS]);
         let mix = self.r.one_in(2);

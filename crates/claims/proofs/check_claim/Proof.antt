@@ -25,11 +25,18 @@ check-opened-requires c κs = search needs
 enum-known-tested : tie.Need-enum-known-tested
 enum-known-tested c = search needs
 
+has-four-requires : tie.Need-has-four-requires
+has-four-requires c κs = search needs
+
 returns : tie.Need-returns
-returns c = c .check-opened .ensures ∙ claim-opened (c .before .before .before .before .before .before .before .before .before .before .before .args .description .now) (c .before .before .before .before .before .before .before .before .before .before .before .args .c) (c .before .before .before .before .before .before .before .before .before .before .before .args .d) (c .before .before .before .before .before .before .before .before .before .before .before .args .first .now) (c .before .before .before .before .before .before .before .before .before .before .before .args .second .now) _ _ _ _ (sym (ap refusalOf (c .before .before .enum-told .given .1)) ∙ c .before .before .before .before .before .before .before .open-description .ensures .tested) (c .before .before .before .before .before .before .before .open-description .ensures .masks) (c .before .before .before .before .before .before .before .open-description .ensures .count) (c .before .before .before .before .before .concepts-part .ensures) (c .before .before .before .before .query-part .ensures)
+returns c = let g = c .before .before .before .before .before .before .before .before .before .before .before .before .args in let o = c .before .before .before .before .before .before .before .before .open-description .ensures in
+    c .check-opened .ensures ∙ claim-opened (g .description .now) (g .c) (g .d) (g .first .now) (g .second .now) _ _ _ _ _
+    (sym (ap refusalOf (c .before .before .enum-told .given .1)) ∙ o .tested) (o .masks) (o .count)
+    (c .before .before .before .before .before .before .concepts-part .ensures) (c .before .before .before .before .before .query-part .ensures) (c .before .before .before .before .has-four .ensures)
 
 returns-2 : tie.Need-returns-2
-returns-2 c = claim-refused (c .before .before .before .before .before .before .before .before .before .before .args .description .now) (c .before .before .before .before .before .before .before .before .before .before .args .c) (c .before .before .before .before .before .before .before .before .before .before .args .d) (c .before .before .before .before .before .before .before .before .before .before .args .first .now) (c .before .before .before .before .before .before .before .before .before .before .args .second .now) _ _ (sym (ap refusalOf (c .before .tested .given .1)) ∙ c .before .before .before .before .before .before .open-description .ensures .tested)
+returns-2 c = let g = c .before .before .before .before .before .before .before .before .before .before .before .args in claim-refused (g .description .now) (g .c) (g .d) (g .first .now) (g .second .now) _ _
+    (sym (ap refusalOf (c .before .tested .given .1)) ∙ c .before .before .before .before .before .before .before .open-description .ensures .tested)
 
 pub check-claim-spec : {M : Type 1} → statement M
 check-claim-spec =
@@ -38,6 +45,7 @@ check-claim-spec =
     open-description-requires
     concepts-part-requires
     query-part-requires
+    has-four-requires
     enum-told
     check-opened-requires
     enum-known-tested

@@ -32,7 +32,8 @@ told-requires : tie.Need-told-requires
 told-requires c κs = search needs
 
 returns : tie.Need-returns
-returns c = c .told .ensures ∙ ap (λ t. endsIn (c .before .before .before .before .kinds .result) (refusalOf t)) (c .before .enum-told2 .given .1) ∙ literals-stop (c .before .before .before .before .before .before .before .before .before .args .m .now) (c .before .before .before .before .before .before .before .before .before .args .roles) (c .before .before .before .before .before .before .before .before .before .args .cs .now) (c .before .before .before .before .before .before .before .before .before .args .qs .now) (c .before .before .before .before .before .before .before .before .before .args .k .c) (c .before .before .before .before .before .before .before .before .before .args .k .d) (c .before .before .before .before .before .before .before .before .before .args .first .now) (c .before .before .before .before .before .before .before .before .before .args .second .now) (c .before .before .before .before .kinds .result) (c .before .before .before .before .kinds .ensures) _ (sym (c .before .before .before .test-literals .ensures) ∙ ap refusalOf (c .before .enum-told2 .given .1))
+returns c = let g = c .before .before .before .before .before .before .before .before .before .args in
+    c .told .ensures ∙ ap (λ t. endsIn (c .before .before .before .before .kinds .result) (refusalOf t)) (c .before .enum-told2 .given .1) ∙ literals-stop (g .shape .marks) (g .m .now) (g .shape .roles) (g .cs .now) (g .qs .now) (g .k .c) (g .k .d) (g .first .now) (g .second .now) (c .before .before .before .before .kinds .result) (c .before .before .before .before .kinds .ensures) _ (sym (c .before .before .before .test-literals .ensures) ∙ ap refusalOf (c .before .enum-told2 .given .1))
 
 enum-told-3 : tie.Need-enum-told-3
 enum-told-3 c = search needs
@@ -53,7 +54,8 @@ told-requires-2 : tie.Need-told-requires-2
 told-requires-2 c κs = search needs
 
 returns-2 : tie.Need-returns-2
-returns-2 c = c .told2 .ensures ∙ pieces-end (c .before .before .before .before .before .before .before .before .before .before .before .before .before .before .before .args .m .now) (c .before .before .before .before .before .before .before .before .before .before .before .before .before .before .before .args .roles) (c .before .before .before .before .before .before .before .before .before .before .before .before .before .before .before .args .cs .now) (c .before .before .before .before .before .before .before .before .before .before .before .before .before .before .before .args .qs .now) (c .before .before .before .before .before .before .before .before .before .before .before .before .before .before .before .args .k .c) (c .before .before .before .before .before .before .before .before .before .before .before .before .before .before .before .args .k .d) (c .before .before .before .before .before .before .before .before .before .before .before .before .before .before .before .args .first .now) (c .before .before .before .before .before .before .before .before .before .before .before .before .before .before .before .args .second .now) (c .before .before .before .before .before .before .before .before .before .before .kinds .result) (c .before .before .before .before .before .before .before .before .before .before .kinds .ensures) (sym (c .before .before .before .before .before .before .before .before .before .test-literals .ensures) ∙ ap refusalOf (c .before .before .before .before .before .before .before .enum-told .given .1)) _ (ap refusalOf (c .before .enum-told5 .given .1) ∙ list-stops (c .before .before .before .before .before .before .before .before .before .before .before .before .before .before .before .args .m .now) (c .before .before .before .before .before .before .before .before .before .before .before .before .before .before .before .args .roles) (c .before .before .before .before .before .before .before .before .before .before .before .before .before .before .before .args .cs .now) (c .before .before .before .before .before .before .before .before .before .before .before .before .before .before .before .args .qs .now) (c .before .before .before .before .before .before .before .before .before .before .before .before .before .before .before .args .k .c) (c .before .before .before .before .before .before .before .before .before .before .before .before .before .before .before .args .k .d) (c .before .before .before .before .before .before .before .before .before .before .before .before .before .before .before .args .first .now) (c .before .before .before .before .before .before .before .before .before .before .before .before .before .before .before .args .second .now) (c .before .before .before .before .before .before .before .before .before .before .kinds .result) (c .before .before .before .before .before .enum-told3 .given .1) _ (sym (ap (λ M. listCode (c .before .before .before .before .before .before .before .before .before .before .before .before .before .before .before .args .m .now) (c .before .before .before .before .before .before .before .before .before .before .before .before .before .before .before .args .cs .now) (c .before .before .before .before .before .before .before .before .before .before .before .before .before .before .before .args .qs .now) M (c .before .before .before .before .before .before .before .before .before .before .before .before .before .before .before .args .first .now)) (c .before .before .before .before .counterexample .ensures)) ∙ sym (c .before .before .before .test-list .ensures) ∙ ap refusalOf (c .before .enum-told5 .given .1)))
+returns-2 c = let g = c .before .before .before .before .before .before .before .before .before .before .before .before .before .before .before .args in
+    c .told2 .ensures ∙ pieces-end (g .shape .marks) (g .m .now) (g .shape .roles) (g .cs .now) (g .qs .now) (g .k .c) (g .k .d) (g .first .now) (g .second .now) (c .before .before .before .before .before .before .before .before .before .before .kinds .result) (c .before .before .before .before .before .before .before .before .before .before .kinds .ensures) (sym (c .before .before .before .before .before .before .before .before .before .test-literals .ensures) ∙ ap refusalOf (c .before .before .before .before .before .before .before .enum-told .given .1)) _ (ap refusalOf (c .before .enum-told5 .given .1) ∙ list-stops (g .shape .marks) (g .m .now) (g .shape .roles) (g .cs .now) (g .qs .now) (g .k .c) (g .k .d) (g .first .now) (g .second .now) (c .before .before .before .before .before .before .before .before .before .before .kinds .result) (c .before .before .before .before .before .enum-told3 .given .1) _ (sym (ap (λ M. listCode (g .shape .marks) (g .m .now) (g .cs .now) (g .qs .now) M (g .first .now)) (c .before .before .before .before .counterexample .ensures)) ∙ sym (c .before .before .before .test-list .ensures) ∙ ap refusalOf (c .before .enum-told5 .given .1)))
 
 only-requires : tie.Need-only-requires
 only-requires c κs = search needs
@@ -101,19 +103,24 @@ told-requires-7 : tie.Need-told-requires-7
 told-requires-7 c κs = search needs
 
 returns-3 : tie.Need-returns-3
-returns-3 c = c .told3 .ensures ∙ pieces-end (c .before .before .before .before .before .before .before .before .before .before .before .before .before .before .before .before .before .args .m .now) (c .before .before .before .before .before .before .before .before .before .before .before .before .before .before .before .before .before .args .roles) (c .before .before .before .before .before .before .before .before .before .before .before .before .before .before .before .before .before .args .cs .now) (c .before .before .before .before .before .before .before .before .before .before .before .before .before .before .before .before .before .args .qs .now) (c .before .before .before .before .before .before .before .before .before .before .before .before .before .before .before .before .before .args .k .c) (c .before .before .before .before .before .before .before .before .before .before .before .before .before .before .before .before .before .args .k .d) (c .before .before .before .before .before .before .before .before .before .before .before .before .before .before .before .before .before .args .first .now) (c .before .before .before .before .before .before .before .before .before .before .before .before .before .before .before .before .before .args .second .now) (c .before .before .before .before .before .before .before .before .before .before .before .before .kinds .result) (c .before .before .before .before .before .before .before .before .before .before .before .before .kinds .ensures) (sym (c .before .before .before .before .before .before .before .before .before .before .before .test-literals .ensures) ∙ ap refusalOf (c .before .before .before .before .before .before .before .before .before .enum-told .given .1)) _ (c .before .test-graph .ensures ∙ ap (λ M. graphCode (c .before .before .before .before .before .before .before .before .before .before .before .before .before .before .before .before .before .args .m .now) (c .before .before .before .before .before .before .before .before .before .before .before .before .before .before .before .before .before .args .roles) (c .before .before .before .before .before .before .before .before .before .before .before .before .before .before .before .before .before .args .cs .now) (c .before .before .before .before .before .before .before .before .before .before .before .before .before .before .before .before .before .args .qs .now) M (c .before .before .before .before .before .before .before .before .before .before .before .before .before .before .before .before .before .args .second .now)) (c .before .before .only .ensures) ∙ list-on (c .before .before .before .before .before .before .before .before .before .before .before .before .before .before .before .before .before .args .m .now) (c .before .before .before .before .before .before .before .before .before .before .before .before .before .before .before .before .before .args .roles) (c .before .before .before .before .before .before .before .before .before .before .before .before .before .before .before .before .before .args .cs .now) (c .before .before .before .before .before .before .before .before .before .before .before .before .before .before .before .before .before .args .qs .now) (c .before .before .before .before .before .before .before .before .before .before .before .before .before .before .before .before .before .args .k .c) (c .before .before .before .before .before .before .before .before .before .before .before .before .before .before .before .before .before .args .k .d) (c .before .before .before .before .before .before .before .before .before .before .before .before .before .before .before .before .before .args .first .now) (c .before .before .before .before .before .before .before .before .before .before .before .before .before .before .before .before .before .args .second .now) (c .before .before .before .before .before .before .before .before .before .before .before .before .kinds .result) (c .before .before .before .before .before .before .before .enum-told3 .given .1) (sym (ap (λ M. listCode (c .before .before .before .before .before .before .before .before .before .before .before .before .before .before .before .before .before .args .m .now) (c .before .before .before .before .before .before .before .before .before .before .before .before .before .before .before .before .before .args .cs .now) (c .before .before .before .before .before .before .before .before .before .before .before .before .before .before .before .before .before .args .qs .now) M (c .before .before .before .before .before .before .before .before .before .before .before .before .before .before .before .before .before .args .first .now)) (c .before .before .before .before .before .before .counterexample .ensures)) ∙ sym (c .before .before .before .before .before .test-list .ensures) ∙ ap refusalOf (c .before .before .before .enum-told4 .given .1)))
+returns-3 c = let g = c .before .before .before .before .before .before .before .before .before .before .before .before .before .before .before .before .before .args in
+    c .told3 .ensures ∙ pieces-end (g .shape .marks) (g .m .now) (g .shape .roles) (g .cs .now) (g .qs .now) (g .k .c) (g .k .d) (g .first .now) (g .second .now) (c .before .before .before .before .before .before .before .before .before .before .before .before .kinds .result) (c .before .before .before .before .before .before .before .before .before .before .before .before .kinds .ensures) (sym (c .before .before .before .before .before .before .before .before .before .before .before .test-literals .ensures) ∙ ap refusalOf (c .before .before .before .before .before .before .before .before .before .enum-told .given .1)) _ (c .before .test-graph .ensures ∙ ap (λ M. graphCode (g .m .now) (g .shape .roles) (g .cs .now) (g .qs .now) M (g .second .now)) (c .before .before .only .ensures) ∙ list-on (g .shape .marks) (g .m .now) (g .shape .roles) (g .cs .now) (g .qs .now) (g .k .c) (g .k .d) (g .first .now) (g .second .now) (c .before .before .before .before .before .before .before .before .before .before .before .before .kinds .result) (c .before .before .before .before .before .before .before .enum-told3 .given .1) (sym (ap (λ M. listCode (g .shape .marks) (g .m .now) (g .cs .now) (g .qs .now) M (g .first .now)) (c .before .before .before .before .before .before .counterexample .ensures)) ∙ sym (c .before .before .before .before .before .test-list .ensures) ∙ ap refusalOf (c .before .before .before .enum-told4 .given .1)))
 
 returns-4 : tie.Need-returns-4
-returns-4 c = c .told4 .ensures ∙ pieces-end (c .before .before .before .before .before .before .before .before .before .before .before .before .before .args .m .now) (c .before .before .before .before .before .before .before .before .before .before .before .before .before .args .roles) (c .before .before .before .before .before .before .before .before .before .before .before .before .before .args .cs .now) (c .before .before .before .before .before .before .before .before .before .before .before .before .before .args .qs .now) (c .before .before .before .before .before .before .before .before .before .before .before .before .before .args .k .c) (c .before .before .before .before .before .before .before .before .before .before .before .before .before .args .k .d) (c .before .before .before .before .before .before .before .before .before .before .before .before .before .args .first .now) (c .before .before .before .before .before .before .before .before .before .before .before .before .before .args .second .now) (c .before .before .before .before .before .before .before .before .kinds .result) (c .before .before .before .before .before .before .before .before .kinds .ensures) (sym (c .before .before .before .before .before .before .before .test-literals .ensures) ∙ ap refusalOf (c .before .before .before .before .before .enum-told .given .1)) _ (c .before .test-graph2 .ensures ∙ ap (λ M. graphCode (c .before .before .before .before .before .before .before .before .before .before .before .before .before .args .m .now) (c .before .before .before .before .before .before .before .before .before .before .before .before .before .args .roles) (c .before .before .before .before .before .before .before .before .before .before .before .before .before .args .cs .now) (c .before .before .before .before .before .before .before .before .before .before .before .before .before .args .qs .now) M (c .before .before .before .before .before .before .before .before .before .before .before .before .before .args .first .now)) (c .before .before .counterexample2 .ensures) ∙ sym (ap (piecesCode (c .before .before .before .before .before .before .before .before .before .before .before .before .before .args .m .now) (c .before .before .before .before .before .before .before .before .before .before .before .before .before .args .roles) (c .before .before .before .before .before .before .before .before .before .before .before .before .before .args .cs .now) (c .before .before .before .before .before .before .before .before .before .before .before .before .before .args .qs .now) (c .before .before .before .before .before .before .before .before .before .before .before .before .before .args .k .c) (c .before .before .before .before .before .before .before .before .before .before .before .before .before .args .k .d) (c .before .before .before .before .before .before .before .before .before .before .before .before .before .args .first .now) (c .before .before .before .before .before .before .before .before .before .before .before .before .before .args .second .now)) (c .before .before .before .enum-told6 .given .1)))
+returns-4 c = let g = c .before .before .before .before .before .before .before .before .before .before .before .before .before .args in
+    c .told4 .ensures ∙ pieces-end (g .shape .marks) (g .m .now) (g .shape .roles) (g .cs .now) (g .qs .now) (g .k .c) (g .k .d) (g .first .now) (g .second .now) (c .before .before .before .before .before .before .before .before .kinds .result) (c .before .before .before .before .before .before .before .before .kinds .ensures) (sym (c .before .before .before .before .before .before .before .test-literals .ensures) ∙ ap refusalOf (c .before .before .before .before .before .enum-told .given .1)) _ (c .before .test-graph2 .ensures ∙ ap (λ M. graphCode (g .m .now) (g .shape .roles) (g .cs .now) (g .qs .now) M (g .first .now)) (c .before .before .counterexample2 .ensures) ∙ sym (ap (piecesCode (g .shape .marks) (g .m .now) (g .shape .roles) (g .cs .now) (g .qs .now) (g .k .c) (g .k .d) (g .first .now) (g .second .now)) (c .before .before .before .enum-told6 .given .1)))
 
 returns-5 : tie.Need-returns-5
-returns-5 c = c .told5 .ensures ∙ pieces-end (c .before .before .before .before .before .before .before .before .before .before .before .before .before .args .m .now) (c .before .before .before .before .before .before .before .before .before .before .before .before .before .args .roles) (c .before .before .before .before .before .before .before .before .before .before .before .before .before .args .cs .now) (c .before .before .before .before .before .before .before .before .before .before .before .before .before .args .qs .now) (c .before .before .before .before .before .before .before .before .before .before .before .before .before .args .k .c) (c .before .before .before .before .before .before .before .before .before .before .before .before .before .args .k .d) (c .before .before .before .before .before .before .before .before .before .before .before .before .before .args .first .now) (c .before .before .before .before .before .before .before .before .before .before .before .before .before .args .second .now) (c .before .before .before .before .before .before .before .before .kinds .result) (c .before .before .before .before .before .before .before .before .kinds .ensures) (sym (c .before .before .before .before .before .before .before .test-literals .ensures) ∙ ap refusalOf (c .before .before .before .before .before .enum-told .given .1)) _ (c .before .test-list2 .ensures ∙ ap (λ M. listCode (c .before .before .before .before .before .before .before .before .before .before .before .before .before .args .m .now) (c .before .before .before .before .before .before .before .before .before .before .before .before .before .args .cs .now) (c .before .before .before .before .before .before .before .before .before .before .before .before .before .args .qs .now) M (c .before .before .before .before .before .before .before .before .before .before .before .before .before .args .first .now)) (c .before .before .only2 .ensures) ∙ sym (ap (piecesCode (c .before .before .before .before .before .before .before .before .before .before .before .before .before .args .m .now) (c .before .before .before .before .before .before .before .before .before .before .before .before .before .args .roles) (c .before .before .before .before .before .before .before .before .before .before .before .before .before .args .cs .now) (c .before .before .before .before .before .before .before .before .before .before .before .before .before .args .qs .now) (c .before .before .before .before .before .before .before .before .before .before .before .before .before .args .k .c) (c .before .before .before .before .before .before .before .before .before .before .before .before .before .args .k .d) (c .before .before .before .before .before .before .before .before .before .before .before .before .before .args .first .now) (c .before .before .before .before .before .before .before .before .before .before .before .before .before .args .second .now)) (c .before .before .before .enum-told7 .given .1)))
+returns-5 c = let g = c .before .before .before .before .before .before .before .before .before .before .before .before .before .args in
+    c .told5 .ensures ∙ pieces-end (g .shape .marks) (g .m .now) (g .shape .roles) (g .cs .now) (g .qs .now) (g .k .c) (g .k .d) (g .first .now) (g .second .now) (c .before .before .before .before .before .before .before .before .kinds .result) (c .before .before .before .before .before .before .before .before .kinds .ensures) (sym (c .before .before .before .before .before .before .before .test-literals .ensures) ∙ ap refusalOf (c .before .before .before .before .before .enum-told .given .1)) _ (c .before .test-list2 .ensures ∙ ap (λ M. listCode (g .shape .marks) (g .m .now) (g .cs .now) (g .qs .now) M (g .first .now)) (c .before .before .only2 .ensures) ∙ sym (ap (piecesCode (g .shape .marks) (g .m .now) (g .shape .roles) (g .cs .now) (g .qs .now) (g .k .c) (g .k .d) (g .first .now) (g .second .now)) (c .before .before .before .enum-told7 .given .1)))
 
 returns-6 : tie.Need-returns-6
-returns-6 c = c .told6 .ensures ∙ pieces-end (c .before .before .before .before .before .before .before .before .before .before .before .args .m .now) (c .before .before .before .before .before .before .before .before .before .before .before .args .roles) (c .before .before .before .before .before .before .before .before .before .before .before .args .cs .now) (c .before .before .before .before .before .before .before .before .before .before .before .args .qs .now) (c .before .before .before .before .before .before .before .before .before .before .before .args .k .c) (c .before .before .before .before .before .before .before .before .before .before .before .args .k .d) (c .before .before .before .before .before .before .before .before .before .before .before .args .first .now) (c .before .before .before .before .before .before .before .before .before .before .before .args .second .now) (c .before .before .before .before .before .before .kinds .result) (c .before .before .before .before .before .before .kinds .ensures) (sym (c .before .before .before .before .before .test-literals .ensures) ∙ ap refusalOf (c .before .before .before .enum-told .given .1)) _ (ap refusalOf (c .before .before .before .enum-told .given .1) ∙ sym (ap (piecesCode (c .before .before .before .before .before .before .before .before .before .before .before .args .m .now) (c .before .before .before .before .before .before .before .before .before .before .before .args .roles) (c .before .before .before .before .before .before .before .before .before .before .before .args .cs .now) (c .before .before .before .before .before .before .before .before .before .before .before .args .qs .now) (c .before .before .before .before .before .before .before .before .before .before .before .args .k .c) (c .before .before .before .before .before .before .before .before .before .before .before .args .k .d) (c .before .before .before .before .before .before .before .before .before .before .before .args .first .now) (c .before .before .before .before .before .before .before .before .before .before .before .args .second .now)) (c .before .enum-told8 .given .1)))
+returns-6 c = let g = c .before .before .before .before .before .before .before .before .before .before .before .args in
+    c .told6 .ensures ∙ pieces-end (g .shape .marks) (g .m .now) (g .shape .roles) (g .cs .now) (g .qs .now) (g .k .c) (g .k .d) (g .first .now) (g .second .now) (c .before .before .before .before .before .before .kinds .result) (c .before .before .before .before .before .before .kinds .ensures) (sym (c .before .before .before .before .before .test-literals .ensures) ∙ ap refusalOf (c .before .before .before .enum-told .given .1)) _ (ap refusalOf (c .before .before .before .enum-told .given .1) ∙ sym (ap (piecesCode (g .shape .marks) (g .m .now) (g .shape .roles) (g .cs .now) (g .qs .now) (g .k .c) (g .k .d) (g .first .now) (g .second .now)) (c .before .enum-told8 .given .1)))
 
 returns-7 : tie.Need-returns-7
-returns-7 c = c .told7 .ensures ∙ pieces-end (c .before .before .before .before .before .before .before .before .before .before .before .args .m .now) (c .before .before .before .before .before .before .before .before .before .before .before .args .roles) (c .before .before .before .before .before .before .before .before .before .before .before .args .cs .now) (c .before .before .before .before .before .before .before .before .before .before .before .args .qs .now) (c .before .before .before .before .before .before .before .before .before .before .before .args .k .c) (c .before .before .before .before .before .before .before .before .before .before .before .args .k .d) (c .before .before .before .before .before .before .before .before .before .before .before .args .first .now) (c .before .before .before .before .before .before .before .before .before .before .before .args .second .now) (c .before .before .before .before .before .before .kinds .result) (c .before .before .before .before .before .before .kinds .ensures) (sym (c .before .before .before .before .before .test-literals .ensures) ∙ ap refusalOf (c .before .before .before .enum-told .given .1)) _ (ap refusalOf (c .before .before .before .enum-told .given .1) ∙ sym (ap (piecesCode (c .before .before .before .before .before .before .before .before .before .before .before .args .m .now) (c .before .before .before .before .before .before .before .before .before .before .before .args .roles) (c .before .before .before .before .before .before .before .before .before .before .before .args .cs .now) (c .before .before .before .before .before .before .before .before .before .before .before .args .qs .now) (c .before .before .before .before .before .before .before .before .before .before .before .args .k .c) (c .before .before .before .before .before .before .before .before .before .before .before .args .k .d) (c .before .before .before .before .before .before .before .before .before .before .before .args .first .now) (c .before .before .before .before .before .before .before .before .before .before .before .args .second .now)) (c .before .enum-told9 .given .1)))
+returns-7 c = let g = c .before .before .before .before .before .before .before .before .before .before .before .args in
+    c .told7 .ensures ∙ pieces-end (g .shape .marks) (g .m .now) (g .shape .roles) (g .cs .now) (g .qs .now) (g .k .c) (g .k .d) (g .first .now) (g .second .now) (c .before .before .before .before .before .before .kinds .result) (c .before .before .before .before .before .before .kinds .ensures) (sym (c .before .before .before .before .before .test-literals .ensures) ∙ ap refusalOf (c .before .before .before .enum-told .given .1)) _ (ap refusalOf (c .before .before .before .enum-told .given .1) ∙ sym (ap (piecesCode (g .shape .marks) (g .m .now) (g .shape .roles) (g .cs .now) (g .qs .now) (g .k .c) (g .k .d) (g .first .now) (g .second .now)) (c .before .enum-told9 .given .1)))
 
 pub check-opened-spec : {M : Type 1} → statement M
 check-opened-spec =

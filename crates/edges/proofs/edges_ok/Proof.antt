@@ -1,4 +1,3 @@
-use mathlib.Core.Path.{_∙_}
 use Rattle.edges.specs.EdgeSteps.{edges-read}
 use borrow.Author.Needs.{needs}
 use Rattle.edges.proofs.edges_ok.Statement.{statement}
@@ -6,6 +5,7 @@ use Rattle.edges.proofs.edges_ok.Tie as tie
 use Rattle.edges.proofs.edges_ok.Reads as reads
 use Rattle.edges.proofs.edges_ok.Lts as lts
 use Rattle.edges.proofs.edge_count.Reads as edge-count-reads
+use Rattle.edges.proofs.edges_compatible.Reads as edges-compatible-reads
 use Rattle.edges.proofs.edges_hold.Reads as edges-hold-reads
 use Rattle.parts.proofs.up_to.Reads as up-to-reads
 
@@ -18,9 +18,15 @@ up-to-requires c κs = search needs
 edges-hold-requires : tie.Need-edges-hold-requires
 edges-hold-requires c κs = search needs
 
+edges-compatible-requires : tie.Need-edges-compatible-requires
+edges-compatible-requires c κs = search needs
+
 returns : tie.Need-returns
-returns c = let p = c .before .before .before .before .args in
-    c .edges-hold .ensures ∙ edges-read (p .es .now) (p .a .now) (p .roles) (p .size) _ _ (c .before .before .edge-count .ensures .0) (c .before .up-to .ensures .0)
+returns c = let p = c .before .before .before .before .before .args in
+    edges-read (p .es .now) (p .a .now) (p .roles) (p .size) _ _ _ _
+    (c .before .before .before .edge-count .ensures .0) (c .before .before .up-to .ensures .0)
+    (c .before .edges-hold .ensures) (c .edges-compatible .ensures)
 
 pub edges-ok-spec : {M : Type 1} → statement M
-edges-ok-spec = tie.close (tie.spec edge-count-requires up-to-requires edges-hold-requires returns)
+edges-ok-spec =
+    tie.close (tie.spec edge-count-requires up-to-requires edges-hold-requires edges-compatible-requires returns)

@@ -12,7 +12,7 @@ is-wide-requires : tie.Need-is-wide-requires
 is-wide-requires c κs = search needs
 
 returns : tie.Need-returns
-returns c = let build : Bool → Layout = λ b. record { wide = b } in ap build (c .is-wide .ensures)
+returns c = let build : Bool → Layout = λ b. record { wide = b; marks = c .before .before .args .marks } in ap build (c .is-wide .ensures)
 
 pub layout-of-spec : {M : Type 1} → statement M
 layout-of-spec = tie.close (tie.spec is-wide-requires returns)

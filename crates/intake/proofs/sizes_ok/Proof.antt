@@ -1,4 +1,4 @@
-use Rattle.intake.specs.Intake.{sizes-read}
+use Rattle.intake.specs.Steps.{sizes-read}
 use borrow.Author.Needs.{needs}
 use Rattle.intake.proofs.sizes_ok.Statement.{statement}
 use Rattle.intake.proofs.sizes_ok.Tie as tie
@@ -19,7 +19,8 @@ records-ok-requires-2 : tie.Need-records-ok-requires-2
 records-ok-requires-2 c κs = search needs
 
 returns : tie.Need-returns
-returns c = sizes-read (c .before .before .before .before .before .args .rs .now) (c .before .before .before .before .before .args .cs .now) (c .before .before .before .before .before .args .qs .now) _ _ (c .before .records-ok .ensures) (c .records-ok2 .ensures)
+returns c = let g = c .before .before .before .before .before .before .args in
+    sizes-read (g .rs .now) (g .cs .now) (g .qs .now) (g .ps .now) _ _ (c .before .records-ok .ensures) (c .records-ok2 .ensures)
 
 pub sizes-ok-spec : {M : Type 1} → statement M
 sizes-ok-spec = tie.close (tie.spec records-ok-requires cast-records-ok mul-records-ok records-ok-requires-2 returns)

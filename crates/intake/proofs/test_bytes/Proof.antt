@@ -6,6 +6,7 @@ use Rattle.intake.proofs.test_bytes.Statement.{statement}
 use Rattle.intake.proofs.test_bytes.Tie as tie
 use Rattle.intake.proofs.test_bytes.Reads as reads
 use Rattle.intake.proofs.test_bytes.Lts as lts
+use Rattle.intake.proofs.disjoint_part.Reads as disjoint-part-reads
 use Rattle.intake.proofs.directory_ok.Reads as directory-ok-reads
 use Rattle.intake.proofs.test_parts.Reads as test-parts-reads
 use Rattle.intake.proofs.concepts_part.Reads as concepts-part-reads
@@ -30,8 +31,13 @@ query-part-requires c κs = search needs
 test-parts-requires : tie.Need-test-parts-requires
 test-parts-requires c κs = search needs
 
+disjoint-part-requires : tie.Need-disjoint-part-requires
+disjoint-part-requires c κs = search needs
+
 returns-2 : tie.Need-returns-2
-returns-2 c = λ tab. c .test-parts .ensures ∙ parts-on (c .before .before .before .before .before .before .before .args .d .now) _ _ _ (c .before .before .before .before .before .before .before .args .t) (sym (c .before .before .before .before .before .directory-ok .ensures) ∙ not-false _ (c .before .before .before .before .if1 .left)) (c .before .before .before .roles-part .ensures) (c .before .before .concepts-part .ensures) (c .before .query-part .ensures) tab
+returns-2 c = let g = c .before .before .before .before .before .before .before .before .args in λ tab. c .test-parts .ensures ∙ parts-on (g .d .now) _ _ _ _ (g .t)
+    (sym (c .before .before .before .before .before .before .directory-ok .ensures) ∙ not-false _ (c .before .before .before .before .before .if1 .left))
+    (c .before .before .before .before .roles-part .ensures) (c .before .before .before .concepts-part .ensures) (c .before .before .query-part .ensures) (c .before .disjoint-part .ensures) tab
 
 pub test-bytes-spec : {M : Type 1} → statement M
 test-bytes-spec =
@@ -42,5 +48,6 @@ test-bytes-spec =
     roles-part-requires
     concepts-part-requires
     query-part-requires
+    disjoint-part-requires
     test-parts-requires
     returns-2)

@@ -20,28 +20,35 @@ sizes-ok-requires : tie.Need-sizes-ok-requires
 sizes-ok-requires c κs = search needs
 
 returns : tie.Need-returns
-returns c = stops-2 (c .before .before .before .before .before .args .rs .now) (c .before .before .before .before .before .args .cs .now) (c .before .before .before .before .before .args .qs .now) (c .before .before .before .before .before .args .t) (sym (c .before .sizes-ok .ensures) ∙ not-true _ (c .if1 .taken))
+returns c = let g = c .before .before .before .before .before .before .args in
+    stops-2 (g .rs .now) (g .cs .now) (g .qs .now) (g .ps .now) (g .t) (sym (c .before .sizes-ok .ensures) ∙ not-true _ (c .if1 .taken))
 
 roles-ok-requires : tie.Need-roles-ok-requires
-roles-ok-requires c κs = sizes-few (c .before .before .before .before .before .args .rs .now) (c .before .before .before .before .before .args .cs .now) (c .before .before .before .before .before .args .qs .now) (sym (c .before .sizes-ok .ensures) ∙ not-false _ (c .if1 .left)) .0
+roles-ok-requires c κs = let g = c .before .before .before .before .before .before .args in
+    sizes-few (g .rs .now) (g .cs .now) (g .qs .now) (g .ps .now) (sym (c .before .sizes-ok .ensures) ∙ not-false _ (c .if1 .left)) .0
 
 returns-2 : tie.Need-returns-2
-returns-2 c = stops-3 (c .before .before .before .before .before .before .before .args .rs .now) (c .before .before .before .before .before .before .before .args .cs .now) (c .before .before .before .before .before .before .before .args .qs .now) (c .before .before .before .before .before .before .before .args .t) (sym (c .before .before .before .sizes-ok .ensures) ∙ not-false _ (c .before .before .if1 .left)) (sym (c .before .roles-ok .ensures) ∙ not-true _ (c .if2 .taken))
+returns-2 c = let g = c .before .before .before .before .before .before .before .before .args in
+    stops-3 (g .rs .now) (g .cs .now) (g .qs .now) (g .ps .now) (g .t) (sym (c .before .before .before .sizes-ok .ensures) ∙ not-false _ (c .before .before .if1 .left)) (sym (c .before .roles-ok .ensures) ∙ not-true _ (c .if2 .taken))
 
 entries-ok-requires : tie.Need-entries-ok-requires
-entries-ok-requires c κs = sizes-few (c .before .before .before .before .before .before .before .args .rs .now) (c .before .before .before .before .before .before .before .args .cs .now) (c .before .before .before .before .before .before .before .args .qs .now) (sym (c .before .before .before .sizes-ok .ensures) ∙ not-false _ (c .before .before .if1 .left)) .2
+entries-ok-requires c κs = let g = c .before .before .before .before .before .before .before .before .args in
+    sizes-few (g .rs .now) (g .cs .now) (g .qs .now) (g .ps .now) (sym (c .before .before .before .sizes-ok .ensures) ∙ not-false _ (c .before .before .if1 .left)) .2
 
 returns-3 : tie.Need-returns-3
-returns-3 c = stops-4 (c .before .before .before .before .before .before .before .before .before .args .rs .now) (c .before .before .before .before .before .before .before .before .before .args .cs .now) (c .before .before .before .before .before .before .before .before .before .args .qs .now) (c .before .before .before .before .before .before .before .before .before .args .t) (sym (c .before .before .before .before .before .sizes-ok .ensures) ∙ not-false _ (c .before .before .before .before .if1 .left)) (sym (c .before .before .before .roles-ok .ensures) ∙ not-false _ (c .before .before .if2 .left)) (sym (c .before .entries-ok .ensures) ∙ not-true _ (c .if3 .taken))
+returns-3 c = let g = c .before .before .before .before .before .before .before .before .before .before .args in
+    stops-4 (g .rs .now) (g .cs .now) (g .qs .now) (g .ps .now) (g .t) (sym (c .before .before .before .before .before .sizes-ok .ensures) ∙ not-false _ (c .before .before .before .before .if1 .left)) (sym (c .before .before .before .roles-ok .ensures) ∙ not-false _ (c .before .before .if2 .left)) (sym (c .before .entries-ok .ensures) ∙ not-true _ (c .if3 .taken))
 
 role-count-requires : tie.Need-role-count-requires
 role-count-requires c κs = search needs
 
 test-later-requires : tie.Need-test-later-requires
-test-later-requires c κs = sizes-few (c .before .before .before .before .before .before .before .before .before .before .args .rs .now) (c .before .before .before .before .before .before .before .before .before .before .args .cs .now) (c .before .before .before .before .before .before .before .before .before .before .args .qs .now) (sym (c .before .before .before .before .before .before .sizes-ok .ensures) ∙ not-false _ (c .before .before .before .before .before .if1 .left)) .2
+test-later-requires c κs = let g = c .before .before .before .before .before .before .before .before .before .before .before .args in
+    (sizes-few (g .rs .now) (g .cs .now) (g .qs .now) (g .ps .now) (sym (c .before .before .before .before .before .before .sizes-ok .ensures) ∙ not-false _ (c .before .before .before .before .before .if1 .left)) .2, c .role-count .ensures .1)
 
 returns-4 : tie.Need-returns-4
-returns-4 c = c .test-later .ensures ∙ (ap (λ n. wholly (laterTest (c .before .before .before .before .before .before .before .before .before .before .before .args .cs .now) (c .before .before .before .before .before .before .before .before .before .before .before .args .qs .now) (c .before .before .before .before .before .before .before .before .before .before .before .args .t) (upTo 16 n))) (c .before .role-count .ensures .0) ∙ goes-on (c .before .before .before .before .before .before .before .before .before .before .before .args .rs .now) (c .before .before .before .before .before .before .before .before .before .before .before .args .cs .now) (c .before .before .before .before .before .before .before .before .before .before .before .args .qs .now) (c .before .before .before .before .before .before .before .before .before .before .before .args .t) (sym (c .before .before .before .before .before .before .before .sizes-ok .ensures) ∙ not-false _ (c .before .before .before .before .before .before .if1 .left)) (sym (c .before .before .before .before .before .roles-ok .ensures) ∙ not-false _ (c .before .before .before .before .if2 .left)) (sym (c .before .before .before .entries-ok .ensures) ∙ not-false _ (c .before .before .if3 .left)))
+returns-4 c = let g = c .before .before .before .before .before .before .before .before .before .before .before .before .args in
+    c .test-later .ensures ∙ (ap (λ n. wholly (laterTest (g .cs .now) (g .qs .now) (g .ps .now) (g .t) (upTo 16 n))) (c .before .role-count .ensures .0) ∙ goes-on (g .rs .now) (g .cs .now) (g .qs .now) (g .ps .now) (g .t) (sym (c .before .before .before .before .before .before .before .sizes-ok .ensures) ∙ not-false _ (c .before .before .before .before .before .before .if1 .left)) (sym (c .before .before .before .before .before .roles-ok .ensures) ∙ not-false _ (c .before .before .before .before .if2 .left)) (sym (c .before .before .before .entries-ok .ensures) ∙ not-false _ (c .before .before .if3 .left)))
 
 pub test-parts-spec : {M : Type 1} → statement M
 test-parts-spec =

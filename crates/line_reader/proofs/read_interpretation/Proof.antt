@@ -1,5 +1,9 @@
-use mathlib.Core.Path.{_∙_, sym, ap}
-use Rattle.answers.specs.Answers.{refusalOf}
+use mathlib.Core.Path.{_≡_, _∙_, sym, ap}
+use Rattle.answers.specs.declared.Tested.the-variants.{Fine}
+use Rattle.answers.specs.Answers.{refusalOf, wholly}
+use Rattle.tables.specs.Tables.{recordsIn}
+use Rattle.roles.specs.Records.{roleTable, roleMasks}
+use Rattle.intake.specs.Intake.{disjointPart, AcceptedParts, bytesTest}
 use Rattle.line_reader.specs.Order.{read-ready, read-opened, read-refused}
 use borrow.Author.Needs.{needs}
 use Rattle.line_reader.proofs.read_interpretation.Statement.{statement}
@@ -27,17 +31,27 @@ concepts-part-requires c κs = search needs
 query-part-requires : tie.Need-query-part-requires
 query-part-requires c κs = search needs
 
+-- nothing refuses the description
+opened : (c : tie.After-m2) → refusalOf Fine ≡ wholly (bytesTest (c .before .before .before .before .before .before .before .before .before .before .args .d .now))
+opened c = sym (ap refusalOf (c .before .before .before .before .enum-told .given .1)) ∙ c .before .before .before .before .before .before .before .open-description .ensures .tested
+
+ready : (c : tie.After-m2) → let d = c .before .before .before .before .before .before .before .before .before .before .args .d .now in
+    AcceptedParts (c .before .before .before .roles-part .result .now) (c .before .before .concepts-part .result .now) (c .before .query-part .result .now) (disjointPart d)
+ready c = read-ready (c .before .before .before .before .before .before .before .before .before .before .args .d .now) (c .before .before .before .before .before .before .before .before .before .before .args .s .now) (opened c) _ _ _ (c .before .before .before .roles-part .ensures) (c .before .before .concepts-part .ensures) (c .before .query-part .ensures)
+
 read-line-requires : tie.Need-read-line-requires
-read-line-requires c κs = read-ready (c .before .before .before .before .before .before .before .before .args .d .now) (c .before .before .before .before .before .before .before .before .args .s .now) (sym (ap refusalOf (c .before .before .before .enum-told .given .1)) ∙ c .before .before .before .before .before .open-description .ensures .tested) _ _ _ (c .before .before .roles-part .ensures) (c .before .concepts-part .ensures) (c .query-part .ensures)
+read-line-requires c κs = let k = ready c in (k .0, k .1)
 
 enum-known-tested : tie.Need-enum-known-tested
 enum-known-tested c = search needs
 
 returns : tie.Need-returns
-returns c = c .read-line .ensures ∙ read-opened (c .before .before .before .before .before .before .before .before .before .args .d .now) (c .before .before .before .before .before .before .before .before .before .args .s .now) (sym (ap refusalOf (c .before .before .before .before .enum-told .given .1)) ∙ c .before .before .before .before .before .before .open-description .ensures .tested) _ _ _ (c .before .before .before .roles-part .ensures) (c .before .before .concepts-part .ensures) (c .before .query-part .ensures)
+returns c = let d = c .before .before .before .before .before .before .before .before .before .before .before .args .d .now in c .read-line .ensures (disjointPart d) (ready (c .before))
+    (c .before .before .before .before .before .before .before .before .open-description .ensures .masks ∙ ap (λ rs. roleMasks (roleTable rs) (recordsIn (disjointPart d))) (sym (c .before .before .before .before .roles-part .ensures)))
+    ∙ read-opened d (c .before .before .before .before .before .before .before .before .before .before .before .args .s .now) (opened (c .before)) _ _ _ (c .before .before .before .before .roles-part .ensures) (c .before .before .before .concepts-part .ensures) (c .before .before .query-part .ensures)
 
 returns-2 : tie.Need-returns-2
-returns-2 c = read-refused (c .before .before .before .before .before .before .args .d .now) (c .before .before .before .before .before .before .args .s .now) _ _ (sym (ap refusalOf (c .before .tested .given .1)) ∙ c .before .before .before .open-description .ensures .tested)
+returns-2 c = read-refused (c .before .before .before .before .before .before .before .args .d .now) (c .before .before .before .before .before .before .before .args .s .now) _ _ (sym (ap refusalOf (c .before .tested .given .1)) ∙ c .before .before .before .before .open-description .ensures .tested)
 
 pub read-interpretation-spec : {M : Type 1} → statement M
 read-interpretation-spec =

@@ -35,7 +35,7 @@ use Rattle.rows.proofs.cell_count.Reads as cell-count-reads
 abbrev Inv-loop : tie.InvT-loop
 Inv-loop cs m s k ds f n end above own against shown from₀ cells₀ changes₀ from cells changes =
     (cells + 1 ≤ end) × (end ≤ 64) × (n ≤ 6) × (end ≡ 2 ^ n)
-    × (allBelow (cells + 1) (gatheredOn (labelOf f s) above own shown against ds n) ≡ true)
+    × (allBelow (cells + 1) (gatheredOn (f .marks) m (labelOf f s) above own shown against ds n) ≡ true)
     × (changes ≡ changesUpTo cells) × Walked above cells from
 
 abbrev μ-loop : tie.MeasureT-loop
@@ -51,17 +51,17 @@ start c = found c .before .before .before .before .before
 -- the test of the cells by the arrays that are filled before the loop
 abbrev test : tie.After-shown-of Inv-loop μ-loop → ℕ → Bool
 test c = let g = start c .args in
-    gatheredOn (labelOf (g .f) (g .s .now)) (c .before .before .before .above-of .result) (c .before .before .own-of .result)
-    (c .shown-of .result) (c .before .against-of .result) (g .ds .now) (found c .before .up-to .result)
+    gatheredOn (g .f .marks) (g .m .now) (labelOf (g .f) (g .s .now)) (c .before .before .before .above-of .result)
+    (c .before .before .own-of .result) (c .shown-of .result) (c .before .against-of .result) (g .ds .now) (found c .before .up-to .result)
 
 -- is the one by the rows
 told : (c : tie.After-shown-of Inv-loop μ-loop) (m : ℕ) → let g = start c .args in
-    test c m ≡ cellFine (g .cs .now) (g .m .now) (labelOf (g .f) (g .s .now)) (valueOf (g .x)) (rowsHeld (g .rows) (upTo 6 (g .k)))
-    (g .ds .now) (upTo 6 (g .k)) m
+    test c m ≡ cellFine (g .f .marks) (g .cs .now) (g .m .now) (labelOf (g .f) (g .s .now)) (valueOf (g .x))
+    (rowsHeld (g .rows) (upTo 6 (g .k))) (g .ds .now) (upTo 6 (g .k)) m
 told c m = let g = start c .args in let n = found c .before .up-to in let b = c .before .before .before .above-of in
     cell-told (g .m .now) (g .rows) (n .result) (n .ensures .1) _ (b .ensures .0) (g .cs .now) (valueOf (g .x)) _ _ _
     (c .shown-of .ensures) (c .before .against-of .ensures) (c .before .before .own-of .ensures) (b .ensures .1)
-    (labelOf (g .f) (g .s .now)) (g .ds .now) _ (n .ensures .0) m
+    (g .f .marks) (labelOf (g .f) (g .s .now)) (g .ds .now) _ (n .ensures .0) m
 
 -- the step to the next cell, from the loop's head
 abbrev head : tie.After-next-cell Inv-loop μ-loop → tie.At-loop Inv-loop μ-loop
@@ -73,9 +73,9 @@ counted c = ap (λ n. n + c .next-cell .result) (head c .loop .inv .5) ∙ c .ne
 here : (c : tie.After-cell-ok Inv-loop μ-loop) → let l = head (c .before .before .before .before) in
     c .cell-ok .result ≡ test (l .before) (l .loop .cells + 1)
 here c = let m = c .before .before .before .before in let l = head m in let e = l .before in let g = start e .args in
-    cell-at (labelOf (g .f) (g .s .now)) (e .before .before .before .above-of .result) (e .before .before .own-of .result)
-    (e .shown-of .result) (e .before .against-of .result) (g .ds .now) (found e .before .up-to .result)
-    (l .loop .cells + 1) _ (c .before .cell-roles .result) _ (omega arith) (c .before .before .before .byte .ensures)
+    cell-at (g .f .marks) (g .m .now) (labelOf (g .f) (g .s .now)) (e .before .before .before .above-of .result)
+    (e .before .before .own-of .result) (e .shown-of .result) (e .before .against-of .result) (g .ds .now) (found e .before .up-to .result)
+    (l .loop .cells + 1) _ (c .before .cell-roles .result) _ (omega arith) (c .before .before .before .byte .ensures) (search needs)
     (c .before .cell-roles .ensures .1 _ _ (m .next-cell .ensures .1 .1 (l .loop .inv .6))) (c .cell-ok .ensures)
 
 up-to-requires : tie.Need-up-to-requires Inv-loop μ-loop
@@ -107,8 +107,8 @@ loop-holds c = let b = found c in let n = b .before .up-to in let p = pow-pos (n
       omega (arith, b .cell-count .ensures .1, mod-eq-of-lt few),
       n .ensures .1,
       e,
-      no-cell (labelOf (g .f) (g .s .now)) (c .before .before .before .above-of .result) (c .before .before .own-of .result)
-          (c .shown-of .result) (c .before .against-of .result) (g .ds .now) (n .result),
+      no-cell (g .f .marks) (g .m .now) (labelOf (g .f) (g .s .now)) (c .before .before .before .above-of .result)
+          (c .before .before .own-of .result) (c .shown-of .result) (c .before .against-of .result) (g .ds .now) (n .result),
       count-start,
       walk-start (c .before .before .before .above-of .result),
     )

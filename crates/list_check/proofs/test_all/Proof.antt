@@ -23,7 +23,8 @@ enum-told-2 c = search needs
 
 returns : tie.Need-returns
 returns c = let g = c .before .before .before .before .before .before .args in
-    ap refusalOf (c .enum-told2 .given .1) ∙ forms-stop (g .m .now) (g .cs .now) (g .qs .now) (valueOf (g .want)) (labelOf (g .f) (g .s .now)) (edgesPart (g .f) (g .s .now)) (g .n) _
+    ap refusalOf (c .enum-told2 .given .1) ∙ forms-stop (g .f .marks) (g .m .now) (g .cs .now) (g .qs .now) (valueOf (g .want))
+    (labelOf (g .f) (g .s .now)) (edgesPart (g .f) (g .s .now)) (g .n) _
     (sym (c .before .before .test-forms .ensures) ∙ ap refusalOf (c .enum-told2 .given .1))
 
 test-records-requires : tie.Need-test-records-requires
@@ -37,7 +38,8 @@ enum-told-4 c = search needs
 
 returns-2 : tie.Need-returns-2
 returns-2 c = let g = c .before .before .before .before .before .before .before .before .before .args in
-    ap refusalOf (c .enum-told4 .given .1) ∙ rules-stop (g .m .now) (g .cs .now) (g .qs .now) (valueOf (g .want)) (labelOf (g .f) (g .s .now)) (edgesPart (g .f) (g .s .now)) (g .n)
+    ap refusalOf (c .enum-told4 .given .1) ∙ rules-stop (g .f .marks) (g .m .now) (g .cs .now) (g .qs .now) (valueOf (g .want))
+    (labelOf (g .f) (g .s .now)) (edgesPart (g .f) (g .s .now)) (g .n)
     (sym (c .before .before .before .before .before .test-forms .ensures) ∙ ap refusalOf (c .before .before .before .enum-told .given .1)) _
     (sym (c .before .before .test-records .ensures) ∙ ap refusalOf (c .enum-told4 .given .1))
 
@@ -49,7 +51,8 @@ test-end-requires c κs = search needs
 
 returns-3 : tie.Need-returns-3
 returns-3 c = let g = c .before .before .before .before .before .before .before .before .before .before .args in
-    c .test-end .ensures ∙ rules-end (g .m .now) (g .cs .now) (g .qs .now) (valueOf (g .want)) (labelOf (g .f) (g .s .now)) (edgesPart (g .f) (g .s .now)) (g .n)
+    c .test-end .ensures ∙ rules-end (g .f .marks) (g .m .now) (g .cs .now) (g .qs .now) (valueOf (g .want)) (labelOf (g .f) (g .s .now))
+    (edgesPart (g .f) (g .s .now)) (g .n)
     (sym (c .before .before .before .before .before .before .test-forms .ensures) ∙ ap refusalOf (c .before .before .before .before .enum-told .given .1))
     (sym (c .before .before .before .test-records .ensures) ∙ ap refusalOf (c .before .enum-told3 .given .1))
 

@@ -34,15 +34,18 @@ enum-told-2 c = search needs
 returns : tie.Need-returns
 returns c = let g = c .before .before .before .before .before .before .before .before .before .args in
     let w = head-is-list (g .s .now) _ (sym (c .before .before .before .head .given .1) ∙ c .before .before .before .before .before .read-head .ensures .0) in
-    c .test-all .ensures ∙ head-on (g .m .now) (g .cs .now) (g .qs .now) (valueOf (g .want)) (g .s .now) _ _ (w .0) (w .1 .0) (c .before .layout-of .ensures)
+    c .test-all .ensures ∙ head-on (g .marks) (g .m .now) (g .cs .now) (g .qs .now) (valueOf (g .want)) (g .s .now) _ _ (w .0) (w .1 .0)
+    (c .before .layout-of .ensures)
 
 returns-2 : tie.Need-returns-2
-returns-2 c = let g = c .before .before .before .before .before .before .args in head-stop (g .m .now) (g .cs .now) (g .qs .now) (valueOf (g .want)) (g .s .now)
+returns-2 c = let g = c .before .before .before .before .before .before .args in
+    head-stop (g .marks) (g .m .now) (g .cs .now) (g .qs .now) (valueOf (g .want)) (g .s .now)
     (head-no-list (g .s .now) _ (c .before .before .read-head .ensures .0)
     (λ n e. let q = c .enum-told .given .1 in let z : _≡_ {A = ℕ} 0 1 = cc in omega arith))
 
 returns-3 : tie.Need-returns-3
-returns-3 c = let g = c .before .before .before .before .before .before .args in head-stop (g .m .now) (g .cs .now) (g .qs .now) (valueOf (g .want)) (g .s .now)
+returns-3 c = let g = c .before .before .before .before .before .before .args in
+    head-stop (g .marks) (g .m .now) (g .cs .now) (g .qs .now) (valueOf (g .want)) (g .s .now)
     (head-no-list (g .s .now) _ (c .before .before .read-head .ensures .0)
     (λ n e. let q = c .enum-told2 .given .1 in let z : _≡_ {A = ℕ} 0 1 = cc in omega arith))
 

@@ -20,7 +20,9 @@ test-labelled-requires : tie.Need-test-labelled-requires
 test-labelled-requires c κs = search needs
 
 returns : tie.Need-returns
-returns c = let g = c .before .before .before .before .before .before .args in c .test-labelled .ensures ∙ record-read (g .m .now) (g .cs .now) (g .qs .now) (labelOf (g .f) (g .s .now)) (edgesPart (g .f) (g .s .now)) (g .i) _ _ (c .before .before .record-label .ensures) (c .before .record-edges .ensures)
+returns c = let g = c .before .before .before .before .before .before .args in
+    c .test-labelled .ensures ∙ record-read (g .f .marks) (g .m .now) (g .cs .now) (g .qs .now) (labelOf (g .f) (g .s .now))
+    (edgesPart (g .f) (g .s .now)) (g .i) _ _ (c .before .before .record-label .ensures) (c .before .record-edges .ensures)
 
 pub test-record-spec : {M : Type 1} → statement M
 test-record-spec =

@@ -14,7 +14,8 @@ use Rattle.list_check.proofs.test_records.Lts as lts
 use Rattle.list_check.proofs.test_record.Reads as test-record-reads
 
 abbrev Inv-loop : tie.InvT-loop
-Inv-loop a cs qs s n f i₀ i = (i ≤ n) × (refuseFrom (recordCode a cs qs (labelOf f s) (edgesPart f s)) (n - i) i none ≡ refuseFrom (recordCode a cs qs (labelOf f s) (edgesPart f s)) n 0 none)
+Inv-loop a cs qs s n f i₀ i = (i ≤ n) × (refuseFrom (recordCode (f .marks) a cs qs (labelOf f s) (edgesPart f s))
+    (n - i) i none ≡ refuseFrom (recordCode (f .marks) a cs qs (labelOf f s) (edgesPart f s)) n 0 none)
 
 abbrev μ-loop : tie.MeasureT-loop
 μ-loop a cs qs s n f i₀ i = n - i

@@ -20,29 +20,31 @@ counting-form-requires c κs = search needs
 
 returns : tie.Need-returns
 unfolding stepOf
-returns c = step-size (c .before .before .before .args .ds .now) 1 2 _ (sym (c .before .byte .ensures) ∙ c .match .keys1) refl
+returns c = λ marks. step-size marks (c .before .before .before .args .ds .now) 1 2 _ (sym (c .before .byte .ensures) ∙ c .match .keys1) refl
 
 returns-2 : tie.Need-returns-2
 unfolding stepOf
-returns-2 c = step-size (c .before .before .before .args .ds .now) 2 3 _ (sym (c .before .byte .ensures) ∙ c .match .keys2) refl
+returns-2 c = λ marks. step-size marks (c .before .before .before .args .ds .now) 2 3 _ (sym (c .before .byte .ensures) ∙ c .match .keys2) refl
 
 returns-3 : tie.Need-returns-3
 unfolding stepOf
-returns-3 c = step-size (c .before .before .before .args .ds .now) 3 4 _ (sym (c .before .byte .ensures) ∙ c .match .keys3) refl
+returns-3 c = λ marks. step-size marks (c .before .before .before .args .ds .now) 3 4 _ (sym (c .before .byte .ensures) ∙ c .match .keys3) refl
 
 returns-4 : tie.Need-returns-4
 unfolding stepOf
-returns-4 c = step-size (c .before .before .before .args .ds .now) 4 3 _ (sym (c .before .byte .ensures) ∙ c .match .keys4) refl
+returns-4 c = λ marks. step-size marks (c .before .before .before .args .ds .now) 4 3 _ (sym (c .before .byte .ensures) ∙ c .match .keys4) refl
 
 returns-5 : tie.Need-returns-5
 unfolding stepOf
-returns-5 c = step-size (c .before .before .before .args .ds .now) 5 4 _ (sym (c .before .byte .ensures) ∙ c .match .keys5) refl
+returns-5 c = λ marks. step-size marks (c .before .before .before .args .ds .now) 5 4 _ (sym (c .before .byte .ensures) ∙ c .match .keys5) refl
 
 returns-6 : tie.Need-returns-6
-returns-6 c = c .counting-form .ensures ∙ step-counting (c .before .before .before .before .before .args .ds .now) _ (sym (c .before .before .before .byte .ensures) ∙ c .before .before .match .keys6) (c .before .byte2 .ensures)
+returns-6 c = λ marks. c .counting-form .ensures marks ∙ step-counting marks (c .before .before .before .before .before .args .ds .now) _
+    (sym (c .before .before .before .byte .ensures) ∙ c .before .before .match .keys6) (c .before .byte2 .ensures)
 
 returns-7 : tie.Need-returns-7
-returns-7 c = let r = c .match .rest in step-unknown (c .before .before .before .args .ds .now) _ (c .before .byte .ensures) (r .0 .0 .0 .0 .0 .1) (r .0 .0 .0 .0 .1) (r .0 .0 .0 .1) (r .0 .0 .1) (r .0 .1) (r .1)
+returns-7 c = let r = c .match .rest in λ marks. step-unknown marks (c .before .before .before .args .ds .now) _ (c .before .byte .ensures)
+    (r .0 .0 .0 .0 .0 .1) (r .0 .0 .0 .0 .1) (r .0 .0 .0 .1) (r .0 .0 .1) (r .0 .1) (r .1)
 
 pub step-form-spec : {M : Type 1} → statement M
 step-form-spec =

@@ -15,10 +15,10 @@ use Rattle.list_rows.proofs.test_cell.Reads as test-cell-reads
 use Rattle.rows.proofs.cell_count.Reads as cell-count-reads
 
 abbrev Inv-loop : tie.InvT-loop
-Inv-loop ds k i n c₀ c = (c ≤ n) × (allBelow c (citesAt ds k i) ≡ true) × (n ≡ 2 ^ k) × (n ≤ 64)
+Inv-loop ds k i marks n c₀ c = (c ≤ n) × (allBelow c (citesAt marks ds k i) ≡ true) × (n ≡ 2 ^ k) × (n ≤ 64)
 
 abbrev μ-loop : tie.MeasureT-loop
-μ-loop ds k i n c₀ c = n - c
+μ-loop ds k i marks n c₀ c = n - c
 
 cell-count-requires : tie.Need-cell-count-requires Inv-loop μ-loop
 cell-count-requires c κs = tt

@@ -3,11 +3,11 @@ use mathlib.Core.Bool.{true, false}
 use borrow.Author.Tests.{not-true, not-false}
 use Rattle.labels.specs.Labels.{valueOf}
 use mathlib.Core.List.{[]}
-use Rattle.tables.specs.Tables.{describe}
 use Rattle.evidence.specs.Evidence.{labelOf}
 use Rattle.cites.specs.Cites.{is-earlier, is-bad}
 use Rattle.refutation.specs.Records.{disjunction}
 use Rattle.list_steps.specs.StepSteps.{named-16, named-17, named-fine, cite-3, follows-3}
+use Rattle.rows.specs.HeldRows.{withoutRoles}
 use borrow.Author.Needs.{needs}
 use Rattle.list_steps.proofs.step_3.Statement.{statement}
 use Rattle.list_steps.proofs.step_3.Tie as tie
@@ -22,7 +22,10 @@ entry-in-requires : tie.Need-entry-in-requires
 entry-in-requires c κs = search needs
 
 returns : tie.Need-returns
-returns c = let g = c .before .before .before .before .args in named-16 (describe [] (g .cs .now) []) (labelOf (g .f) (g .s .now)) (g .i) (valueOf (g .x)) (disjunction (g .e .0) (g .c) (g .d)) (cite-3 (g .cs .now) [] (labelOf (g .f) (g .s .now)) (g .i) (valueOf (g .x)) (g .e .0) (g .c) (g .d) false _ _ (sym (c .before .entry-in .ensures) ∙ not-true _ (c .if1 .taken)) refl refl)
+returns c = let g = c .before .before .before .before .args in
+    named-16 (withoutRoles (g .cs .now) []) (labelOf (g .f) (g .s .now)) (g .i) (valueOf (g .x)) (disjunction (g .e .0) (g .c) (g .d))
+    (cite-3 (g .cs .now) [] (labelOf (g .f) (g .s .now)) (g .i) (valueOf (g .x)) (g .e .0) (g .c) (g .d) false _ _
+    (sym (c .before .entry-in .ensures) ∙ not-true _ (c .if1 .taken)) refl refl)
 
 look-up-requires : tie.Need-look-up-requires
 look-up-requires c κs = search needs
@@ -34,7 +37,11 @@ enum-told : tie.Need-enum-told
 enum-told c = search needs
 
 returns-2 : tie.Need-returns-2
-returns-2 c = let g = c .before .before .before .before .before .before .before .args in named-16 (describe [] (g .cs .now) []) (labelOf (g .f) (g .s .now)) (g .i) (valueOf (g .x)) (disjunction (g .e .0) (g .c) (g .d)) (cite-3 (g .cs .now) [] (labelOf (g .f) (g .s .now)) (g .i) (valueOf (g .x)) (g .e .0) (g .c) (g .d) true false _ (sym (c .before .before .before .before .entry-in .ensures) ∙ not-false _ (c .before .before .before .if1 .left)) (is-bad (g .i) (g .c) _ (c .before .before .look-up .ensures .0) (c .enum-told .given .1)) refl)
+returns-2 c = let g = c .before .before .before .before .before .before .before .args in
+    named-16 (withoutRoles (g .cs .now) []) (labelOf (g .f) (g .s .now)) (g .i) (valueOf (g .x)) (disjunction (g .e .0) (g .c) (g .d))
+    (cite-3 (g .cs .now) [] (labelOf (g .f) (g .s .now)) (g .i) (valueOf (g .x)) (g .e .0) (g .c) (g .d) true false _
+    (sym (c .before .before .before .before .entry-in .ensures) ∙ not-false _ (c .before .before .before .if1 .left))
+    (is-bad (g .i) (g .c) _ (c .before .before .look-up .ensures .0) (c .enum-told .given .1)) refl)
 
 look-up-requires-2 : tie.Need-look-up-requires-2
 look-up-requires-2 c κs = search needs
@@ -46,22 +53,64 @@ enum-told-2 : tie.Need-enum-told-2
 enum-told-2 c = search needs
 
 returns-3 : tie.Need-returns-3
-returns-3 c = let g = c .before .before .before .before .before .before .before .before .before .before .before .args in let f = is-earlier (g .i) (g .c) _ _ (c .before .before .before .before .before .before .look-up .ensures .0) (c .before .before .before .before .found .given .1) in named-16 (describe [] (g .cs .now) []) (labelOf (g .f) (g .s .now)) (g .i) (valueOf (g .x)) (disjunction (g .e .0) (g .c) (g .d)) (cite-3 (g .cs .now) [] (labelOf (g .f) (g .s .now)) (g .i) (valueOf (g .x)) (g .e .0) (g .c) (g .d) true true false (sym (c .before .before .before .before .before .before .before .before .entry-in .ensures) ∙ not-false _ (c .before .before .before .before .before .before .before .if1 .left)) (f .0) (is-bad (g .i) (g .d) _ (c .before .before .look-up2 .ensures .0) (c .enum-told2 .given .1)))
+returns-3 c = let g = c .before .before .before .before .before .before .before .before .before .before .before .args in
+    let f = is-earlier (g .i) (g .c) _ _ (c .before .before .before .before .before .before .look-up .ensures .0)
+    (c .before .before .before .before .found .given .1) in
+    named-16 (withoutRoles (g .cs .now) []) (labelOf (g .f) (g .s .now)) (g .i) (valueOf (g .x)) (disjunction (g .e .0) (g .c) (g .d))
+    (cite-3 (g .cs .now) [] (labelOf (g .f) (g .s .now)) (g .i) (valueOf (g .x)) (g .e .0) (g .c) (g .d) true true false
+    (sym (c .before .before .before .before .before .before .before .before .entry-in .ensures) ∙ not-false _
+    (c .before .before .before .before .before .before .before .if1 .left)) (f .0)
+    (is-bad (g .i) (g .d) _ (c .before .before .look-up2 .ensures .0) (c .enum-told2 .given .1)))
 
 holds-case-requires : tie.Need-holds-case-requires
 holds-case-requires c κs = search needs
 
 returns-4 : tie.Need-returns-4
-returns-4 c = let g = c .before .before .before .before .before .before .before .before .before .before .before .before .before .before .args in let f = is-earlier (g .i) (g .c) _ _ (c .before .before .before .before .before .before .before .before .before .look-up .ensures .0) (c .before .before .before .before .before .before .before .found .given .1) in let h = is-earlier (g .i) (g .d) _ _ (c .before .before .before .before .before .look-up2 .ensures .0) (c .before .before .before .other .given .1) in named-17 (describe [] (g .cs .now) []) (labelOf (g .f) (g .s .now)) (g .i) (valueOf (g .x)) (disjunction (g .e .0) (g .c) (g .d)) (cite-3 (g .cs .now) [] (labelOf (g .f) (g .s .now)) (g .i) (valueOf (g .x)) (g .e .0) (g .c) (g .d) true true true (sym (c .before .before .before .before .before .before .before .before .before .before .before .entry-in .ensures) ∙ not-false _ (c .before .before .before .before .before .before .before .before .before .before .if1 .left)) (f .0) (h .0)) (follows-3 (g .cs .now) [] (labelOf (g .f) (g .s .now)) (g .i) (valueOf (g .x)) (g .e .0) (g .c) (g .d) _ _ false _ (f .1) (h .1) (sym (c .before .holds-case .ensures) ∙ not-true _ (c .if2 .taken)) (refl))
+returns-4 c = let g = c .before .before .before .before .before .before .before .before .before .before .before .before .before .before
+    .args in let f = is-earlier (g .i) (g .c) _ _
+    (c .before .before .before .before .before .before .before .before .before .look-up .ensures .0)
+    (c .before .before .before .before .before .before .before .found .given .1) in
+    let h = is-earlier (g .i) (g .d) _ _ (c .before .before .before .before .before .look-up2 .ensures .0)
+    (c .before .before .before .other .given .1) in
+    named-17 (withoutRoles (g .cs .now) []) (labelOf (g .f) (g .s .now)) (g .i) (valueOf (g .x)) (disjunction (g .e .0) (g .c) (g .d))
+    (cite-3 (g .cs .now) [] (labelOf (g .f) (g .s .now)) (g .i) (valueOf (g .x)) (g .e .0) (g .c) (g .d) true true true
+    (sym (c .before .before .before .before .before .before .before .before .before .before .before .entry-in .ensures) ∙ not-false _
+    (c .before .before .before .before .before .before .before .before .before .before .if1 .left)) (f .0) (h .0))
+    (follows-3 (g .cs .now) [] (labelOf (g .f) (g .s .now)) (g .i) (valueOf (g .x)) (g .e .0) (g .c) (g .d) _ _ false _ (f .1) (h .1)
+    (sym (c .before .holds-case .ensures) ∙ not-true _ (c .if2 .taken)) (refl))
 
 sides-within-requires : tie.Need-sides-within-requires
 sides-within-requires c κs = search needs
 
 returns-5 : tie.Need-returns-5
-returns-5 c = let g = c .before .before .before .before .before .before .before .before .before .before .before .before .before .before .before .before .args in let f = is-earlier (g .i) (g .c) _ _ (c .before .before .before .before .before .before .before .before .before .before .before .look-up .ensures .0) (c .before .before .before .before .before .before .before .before .before .found .given .1) in let h = is-earlier (g .i) (g .d) _ _ (c .before .before .before .before .before .before .before .look-up2 .ensures .0) (c .before .before .before .before .before .other .given .1) in named-17 (describe [] (g .cs .now) []) (labelOf (g .f) (g .s .now)) (g .i) (valueOf (g .x)) (disjunction (g .e .0) (g .c) (g .d)) (cite-3 (g .cs .now) [] (labelOf (g .f) (g .s .now)) (g .i) (valueOf (g .x)) (g .e .0) (g .c) (g .d) true true true (sym (c .before .before .before .before .before .before .before .before .before .before .before .before .before .entry-in .ensures) ∙ not-false _ (c .before .before .before .before .before .before .before .before .before .before .before .before .if1 .left)) (f .0) (h .0)) (follows-3 (g .cs .now) [] (labelOf (g .f) (g .s .now)) (g .i) (valueOf (g .x)) (g .e .0) (g .c) (g .d) _ _ true false (f .1) (h .1) (sym (c .before .before .before .holds-case .ensures) ∙ not-false _ (c .before .before .if2 .left)) (sym (c .before .sides-within .ensures) ∙ not-true _ (c .if3 .taken)))
+returns-5 c = let g = c .before .before .before .before .before .before .before .before .before .before .before .before .before .before
+    .before .before .args in let f = is-earlier (g .i) (g .c) _ _
+    (c .before .before .before .before .before .before .before .before .before .before .before .look-up .ensures .0)
+    (c .before .before .before .before .before .before .before .before .before .found .given .1) in
+    let h = is-earlier (g .i) (g .d) _ _ (c .before .before .before .before .before .before .before .look-up2 .ensures .0)
+    (c .before .before .before .before .before .other .given .1) in
+    named-17 (withoutRoles (g .cs .now) []) (labelOf (g .f) (g .s .now)) (g .i) (valueOf (g .x)) (disjunction (g .e .0) (g .c) (g .d))
+    (cite-3 (g .cs .now) [] (labelOf (g .f) (g .s .now)) (g .i) (valueOf (g .x)) (g .e .0) (g .c) (g .d) true true true
+    (sym (c .before .before .before .before .before .before .before .before .before .before .before .before .before .entry-in .ensures)
+    ∙ not-false _ (c .before .before .before .before .before .before .before .before .before .before .before .before .if1 .left)) (f .0)
+    (h .0)) (follows-3 (g .cs .now) [] (labelOf (g .f) (g .s .now)) (g .i) (valueOf (g .x)) (g .e .0) (g .c) (g .d) _ _ true false (f .1)
+    (h .1) (sym (c .before .before .before .holds-case .ensures) ∙ not-false _ (c .before .before .if2 .left))
+    (sym (c .before .sides-within .ensures) ∙ not-true _ (c .if3 .taken)))
 
 returns-6 : tie.Need-returns-6
-returns-6 c = let g = c .before .before .before .before .before .before .before .before .before .before .before .before .before .before .before .before .args in let f = is-earlier (g .i) (g .c) _ _ (c .before .before .before .before .before .before .before .before .before .before .before .look-up .ensures .0) (c .before .before .before .before .before .before .before .before .before .found .given .1) in let h = is-earlier (g .i) (g .d) _ _ (c .before .before .before .before .before .before .before .look-up2 .ensures .0) (c .before .before .before .before .before .other .given .1) in named-fine (describe [] (g .cs .now) []) (labelOf (g .f) (g .s .now)) (g .i) (valueOf (g .x)) (disjunction (g .e .0) (g .c) (g .d)) (cite-3 (g .cs .now) [] (labelOf (g .f) (g .s .now)) (g .i) (valueOf (g .x)) (g .e .0) (g .c) (g .d) true true true (sym (c .before .before .before .before .before .before .before .before .before .before .before .before .before .entry-in .ensures) ∙ not-false _ (c .before .before .before .before .before .before .before .before .before .before .before .before .if1 .left)) (f .0) (h .0)) (follows-3 (g .cs .now) [] (labelOf (g .f) (g .s .now)) (g .i) (valueOf (g .x)) (g .e .0) (g .c) (g .d) _ _ true true (f .1) (h .1) (sym (c .before .before .before .holds-case .ensures) ∙ not-false _ (c .before .before .if2 .left)) (sym (c .before .sides-within .ensures) ∙ not-false _ (c .if3 .left)))
+returns-6 c = let g = c .before .before .before .before .before .before .before .before .before .before .before .before .before .before
+    .before .before .args in let f = is-earlier (g .i) (g .c) _ _
+    (c .before .before .before .before .before .before .before .before .before .before .before .look-up .ensures .0)
+    (c .before .before .before .before .before .before .before .before .before .found .given .1) in
+    let h = is-earlier (g .i) (g .d) _ _ (c .before .before .before .before .before .before .before .look-up2 .ensures .0)
+    (c .before .before .before .before .before .other .given .1) in
+    named-fine (withoutRoles (g .cs .now) []) (labelOf (g .f) (g .s .now)) (g .i) (valueOf (g .x)) (disjunction (g .e .0) (g .c) (g .d))
+    (cite-3 (g .cs .now) [] (labelOf (g .f) (g .s .now)) (g .i) (valueOf (g .x)) (g .e .0) (g .c) (g .d) true true true
+    (sym (c .before .before .before .before .before .before .before .before .before .before .before .before .before .entry-in .ensures)
+    ∙ not-false _ (c .before .before .before .before .before .before .before .before .before .before .before .before .if1 .left)) (f .0)
+    (h .0)) (follows-3 (g .cs .now) [] (labelOf (g .f) (g .s .now)) (g .i) (valueOf (g .x)) (g .e .0) (g .c) (g .d) _ _ true true (f .1)
+    (h .1) (sym (c .before .before .before .holds-case .ensures) ∙ not-false _ (c .before .before .if2 .left))
+    (sym (c .before .sides-within .ensures) ∙ not-false _ (c .if3 .left)))
 
 pub step-3-spec : {M : Type 1} → statement M
 step-3-spec =

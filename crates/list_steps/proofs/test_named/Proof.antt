@@ -47,22 +47,42 @@ test-rows-requires : tie.Need-test-rows-requires
 test-rows-requires c κs = search needs
 
 returns : tie.Need-returns
-returns c = let g = c .before .before .before .before .before .before .before .before .before .before .args in c .step-1 .ensures ∙ by-1 (g .cs .now) (g .qs .now) (labelOf (g .f) (g .s .now)) (g .ds .now) (g .i) (valueOf (g .x)) (search needs) _ (sym (c .before .before .before .before .before .byte .ensures) ∙ c .before .match .keys1) (c .before .before .before .before .byte2 .ensures)
+returns c = let g = c .before .before .before .before .before .before .before .before .before .before .args in
+    c .step-1 .ensures ∙ by-1 (g .f .marks) (g .cs .now) (g .qs .now) (labelOf (g .f) (g .s .now)) (g .ds .now) (g .i) (valueOf (g .x))
+    (search needs) _ (sym (c .before .before .before .before .before .byte .ensures) ∙ c .before .match .keys1)
+    (c .before .before .before .before .byte2 .ensures)
 
 returns-2 : tie.Need-returns-2
-returns-2 c = let g = c .before .before .before .before .before .before .before .before .before .before .args in c .step-2 .ensures ∙ by-2 (g .cs .now) (g .qs .now) (labelOf (g .f) (g .s .now)) (g .ds .now) (g .i) (valueOf (g .x)) (search needs) _ _ (sym (c .before .before .before .before .before .byte .ensures) ∙ c .before .match .keys2) (c .before .before .before .before .byte2 .ensures) (c .before .before .before .byte3 .ensures)
+returns-2 c = let g = c .before .before .before .before .before .before .before .before .before .before .args in
+    c .step-2 .ensures ∙ by-2 (g .f .marks) (g .cs .now) (g .qs .now) (labelOf (g .f) (g .s .now)) (g .ds .now) (g .i) (valueOf (g .x))
+    (search needs) _ _ (sym (c .before .before .before .before .before .byte .ensures) ∙ c .before .match .keys2)
+    (c .before .before .before .before .byte2 .ensures) (c .before .before .before .byte3 .ensures)
 
 returns-3 : tie.Need-returns-3
-returns-3 c = let g = c .before .before .before .before .before .before .before .before .before .before .args in c .step-3 .ensures ∙ by-3 (g .cs .now) (g .qs .now) (labelOf (g .f) (g .s .now)) (g .ds .now) (g .i) (valueOf (g .x)) (search needs) _ _ _ (sym (c .before .before .before .before .before .byte .ensures) ∙ c .before .match .keys3) (c .before .before .before .before .byte2 .ensures) (c .before .before .before .byte3 .ensures) (c .before .before .byte4 .ensures)
+returns-3 c = let g = c .before .before .before .before .before .before .before .before .before .before .args in
+    c .step-3 .ensures ∙ by-3 (g .f .marks) (g .cs .now) (g .qs .now) (labelOf (g .f) (g .s .now)) (g .ds .now) (g .i) (valueOf (g .x))
+    (search needs) _ _ _ (sym (c .before .before .before .before .before .byte .ensures) ∙ c .before .match .keys3)
+    (c .before .before .before .before .byte2 .ensures) (c .before .before .before .byte3 .ensures) (c .before .before .byte4 .ensures)
 
 returns-4 : tie.Need-returns-4
-returns-4 c = let g = c .before .before .before .before .before .before .before .before .before .before .args in c .step-4 .ensures ∙ by-4 (g .cs .now) (g .qs .now) (labelOf (g .f) (g .s .now)) (g .ds .now) (g .i) (valueOf (g .x)) (search needs) _ _ (sym (c .before .before .before .before .before .byte .ensures) ∙ c .before .match .keys4) (c .before .before .before .before .byte2 .ensures) (c .before .before .before .byte3 .ensures)
+returns-4 c = let g = c .before .before .before .before .before .before .before .before .before .before .args in
+    c .step-4 .ensures ∙ by-4 (g .f .marks) (g .cs .now) (g .qs .now) (labelOf (g .f) (g .s .now)) (g .ds .now) (g .i) (valueOf (g .x))
+    (search needs) _ _ (sym (c .before .before .before .before .before .byte .ensures) ∙ c .before .match .keys4)
+    (c .before .before .before .before .byte2 .ensures) (c .before .before .before .byte3 .ensures)
 
 returns-5 : tie.Need-returns-5
-returns-5 c = let g = c .before .before .before .before .before .before .before .before .before .before .args in c .step-5 .ensures ∙ by-5 (g .cs .now) (g .qs .now) (labelOf (g .f) (g .s .now)) (g .ds .now) (g .i) (valueOf (g .x)) (search needs) _ _ _ (sym (c .before .before .before .before .before .byte .ensures) ∙ c .before .match .keys5) (c .before .before .before .before .byte2 .ensures) (c .before .before .before .byte3 .ensures) (c .before .before .byte4 .ensures)
+returns-5 c = let g = c .before .before .before .before .before .before .before .before .before .before .args in
+    c .step-5 .ensures ∙ by-5 (g .f .marks) (g .cs .now) (g .qs .now) (labelOf (g .f) (g .s .now)) (g .ds .now) (g .i) (valueOf (g .x))
+    (search needs) _ _ _ (sym (c .before .before .before .before .before .byte .ensures) ∙ c .before .match .keys5)
+    (c .before .before .before .before .byte2 .ensures) (c .before .before .before .byte3 .ensures) (c .before .before .byte4 .ensures)
 
 returns-6 : tie.Need-returns-6
-returns-6 c = let g = c .before .before .before .before .before .before .before .before .before .before .args in let r = c .before .match .rest in c .test-rows .ensures ∙ by-6 (g .cs .now) (g .qs .now) (labelOf (g .f) (g .s .now)) (g .ds .now) (g .i) (valueOf (g .x)) (search needs) _ (rest-is (g .ds .now) (search needs) _ (c .before .before .before .before .before .byte .ensures) (r .0 .0 .0 .0 .1) (r .0 .0 .0 .1) (r .0 .0 .1) (r .0 .1) (r .1)) (c .before .before .before .before .byte2 .ensures)
+returns-6 c = let g = c .before .before .before .before .before .before .before .before .before .before .args in
+    let r = c .before .match .rest in
+    c .test-rows .ensures ∙ by-6 (g .f .marks) (g .cs .now) (g .qs .now) (labelOf (g .f) (g .s .now)) (g .ds .now) (g .i)
+    (valueOf (g .x)) (search needs) _
+    (rest-is (g .f .marks) (g .ds .now) (search needs) _ (c .before .before .before .before .before .byte .ensures) (r .0 .0 .0 .0 .1)
+    (r .0 .0 .0 .1) (r .0 .0 .1) (r .0 .1) (r .1)) (c .before .before .before .before .byte2 .ensures)
 
 pub test-named-spec : {M : Type 1} → statement M
 test-named-spec =

@@ -11,10 +11,10 @@ use Rattle.roles.proofs.role_masks.Lts as lts
 use Rattle.roles.proofs.mask_of.Reads as mask-of-reads
 
 abbrev Inv-loop : tie.InvT-loop
-Inv-loop t out₀ i₀ out i = (i ≤ 32) × Filled 32 (maskOf t) i out
+Inv-loop t ps out₀ i₀ out i = (i ≤ 49) × Filled 49 (maskOf t ps) i out
 
 abbrev μ-loop : tie.MeasureT-loop
-μ-loop t out₀ i₀ out i = 32 - i
+μ-loop t ps out₀ i₀ out i = 49 - i
 
 loop-holds : tie.Need-loop-holds Inv-loop μ-loop
 loop-holds c = (omega arith, filled-none _ _ _ refl)
@@ -41,7 +41,7 @@ loop-again : tie.Need-loop-again Inv-loop μ-loop
 loop-again c = (omega arith, filled-more _ (omega arith) (c .mask-of .ensures) (c .before .before .loop .inv .1))
 
 returns : tie.Need-returns Inv-loop μ-loop
-returns c = let v = c .before .loop .inv .1 in masks-made _ _ (v .size) (λ i h. v .at i (omega arith))
+returns c = let v = c .before .loop .inv .1 in masks-made _ _ _ (v .size) (λ i h. v .at i (omega arith))
 
 pub role-masks-spec : {M : Type 1} → statement M
 role-masks-spec =

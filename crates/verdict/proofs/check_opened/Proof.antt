@@ -25,7 +25,9 @@ told-requires : tie.Need-told-requires
 told-requires c κs = search needs
 
 returns : tie.Need-returns
-returns c = c .told .ensures ∙ as-list (c .before .before .before .before .before .before .before .before .args .m .now) (c .before .before .before .before .before .before .before .before .args .roles) (c .before .before .before .before .before .before .before .before .args .cs .now) (c .before .before .before .before .before .before .before .before .args .qs .now) (c .before .before .before .before .before .before .before .before .args .s .now) _ _ (c .before .before .before .before .byte .ensures) (c .before .before .before .if1 .taken) (c .before .test-list .ensures ∙ ap (λ M. listCode (c .before .before .before .before .before .before .before .before .args .m .now) (c .before .before .before .before .before .before .before .before .args .cs .now) (c .before .before .before .before .before .before .before .before .args .qs .now) M (c .before .before .before .before .before .before .before .before .args .s .now)) (c .before .before .root-set .ensures))
+returns c = let g = c .before .before .before .before .before .before .before .before .args in
+    c .told .ensures ∙ as-list (g .marks) (g .m .now) (g .roles) (g .cs .now) (g .qs .now) (g .s .now) _ _ (c .before .before .before .before .byte .ensures) (c .before .before .before .if1 .taken)
+    (c .before .test-list .ensures ∙ ap (λ M. listCode (g .marks) (g .m .now) (g .cs .now) (g .qs .now) M (g .s .now)) (c .before .before .root-set .ensures))
 
 test-sample-requires : tie.Need-test-sample-requires
 test-sample-requires c κs = search needs
@@ -34,7 +36,9 @@ told-requires-2 : tie.Need-told-requires-2
 told-requires-2 c κs = search needs
 
 returns-2 : tie.Need-returns-2
-returns-2 c = c .told2 .ensures ∙ as-graph (c .before .before .before .before .before .before .before .args .m .now) (c .before .before .before .before .before .before .before .args .roles) (c .before .before .before .before .before .before .before .args .cs .now) (c .before .before .before .before .before .before .before .args .qs .now) (c .before .before .before .before .before .before .before .args .s .now) _ _ (c .before .before .before .byte .ensures) (c .before .before .if1 .left) (c .before .test-sample .ensures)
+returns-2 c = let g = c .before .before .before .before .before .before .before .args in
+    c .told2 .ensures ∙ as-graph (g .marks) (g .m .now) (g .roles) (g .cs .now) (g .qs .now) (g .s .now) _ _ (c .before .before .before .byte .ensures) (c .before .before .if1 .left)
+    (c .before .test-sample .ensures)
 
 pub check-opened-spec : {M : Type 1} → statement M
 check-opened-spec =

@@ -5,7 +5,7 @@ use Rattle.intake.proofs.everys.every_ok.Statement.{statement}
 use Rattle.intake.proofs.everys.every_ok.Tie as tie
 use Rattle.intake.proofs.everys.every_ok.Reads as reads
 use Rattle.intake.proofs.everys.every_ok.Lts as lts
-use Rattle.intake.proofs.everys.within16.Reads as within16-reads
+use Rattle.roles.proofs.disjoint.within16.Reads as within16-reads
 
 cast-within16 : tie.Need-cast-within16
 cast-within16 c = search needs

@@ -20,7 +20,7 @@ abbrev μ-loop : tie.MeasureT-loop
 μ-loop cs s d broad n out₀ e₀ out e = n - e
 
 loop-holds : tie.Need-loop-holds Inv-loop μ-loop
-loop-holds c = (omega arith, omega arith, omega arith, λ rs qs A. filled-none _ _ _ refl)
+loop-holds c = (omega arith, omega arith, omega arith, λ rs qs p A. filled-none _ _ _ refl)
 
 cast-loop : tie.Need-cast-loop Inv-loop μ-loop
 cast-loop c = omega arith

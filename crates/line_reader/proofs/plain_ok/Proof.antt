@@ -1,12 +1,12 @@
 use mathlib.Core.Path.{_∙_}
 use borrow.Author.Needs.{needs}
 use Rattle.line_reader.specs.LineSteps.{sized}
-use Rattle.line_reader.specs.Order.{model-read}
+use Rattle.line_reader.specs.Order.{plain-read}
 use Rattle.line_reader.specs.TruthSteps.{follows-is, satisfies-is}
-use Rattle.line_reader.proofs.model_ok.Statement.{statement}
-use Rattle.line_reader.proofs.model_ok.Tie as tie
-use Rattle.line_reader.proofs.model_ok.Reads as reads
-use Rattle.line_reader.proofs.model_ok.Lts as lts
+use Rattle.line_reader.proofs.plain_ok.Statement.{statement}
+use Rattle.line_reader.proofs.plain_ok.Tie as tie
+use Rattle.line_reader.proofs.plain_ok.Reads as reads
+use Rattle.line_reader.proofs.plain_ok.Lts as lts
 use Rattle.line_reader.proofs.pairs.inclusions_ok.Reads as inclusions-ok-reads
 use Rattle.line_reader.proofs.pairs.transitivity_ok.Reads as transitivity-ok-reads
 use Rattle.line_reader.proofs.places.name_at.Reads as name-at-reads
@@ -33,10 +33,14 @@ root-ok-requires : tie.Need-root-ok-requires
 root-ok-requires c κs = search needs
 
 returns : tie.Need-returns
-returns c = let p = c .before .before .before .before .before .before .before .before .before .before .before .before .args in let k = c .before .before .before .before .before .before .before .before .before .before .before .before .pre in let I = sized (p .broad) (p .s .now) (p .d) in model-read (p .rs .now) (p .cs .now) (p .qs .now) (p .s .now) (p .broad) _ (p .d) (c .before .before .before .before .before .before .before .name-at .ensures .0) _ _ _ _ (k .0 .2) (k .1) (c .before .before .before .before .before .before .inclusions-ok .ensures) (c .before .before .before .before .before .transitivity-ok .ensures) (c .before .before .rules-ok .ensures ∙ follows-is (p .rs .now) (p .cs .now) (p .qs .now) (c .before .before .before .before .truth-sets .result) I (k .0 .2) (c .before .before .before .before .truth-sets .ensures)) (c .root-ok .ensures ∙ satisfies-is (p .rs .now) (p .cs .now) (p .qs .now) (c .before .before .before .before .truth-sets .result) I (k .0 .2) (c .before .before .before .before .truth-sets .ensures))
+returns c = let g = c .before .before .before .before .before .before .before .before .before .before .before .before .args in let I = sized (g .broad) (g .s .now) (g .d) in let t = c .before .before .before .before .truth-sets in
+    λ p A. plain-read (g .rs .now) (g .cs .now) (g .qs .now) p (g .s .now) (g .broad) _ (g .d) (c .before .before .before .before .before .before .before .name-at .ensures .0) A _ _ _ _
+    (c .before .before .before .before .before .before .inclusions-ok .ensures) (c .before .before .before .before .before .transitivity-ok .ensures)
+    (c .before .before .rules-ok .ensures ∙ follows-is (g .rs .now) (g .cs .now) (g .qs .now) p (t .result) I A (t .ensures))
+    (c .root-ok .ensures ∙ satisfies-is (g .rs .now) (g .cs .now) (g .qs .now) p (t .result) I A (t .ensures))
 
-pub model-ok-spec : {M : Type 1} → statement M
-model-ok-spec =
+pub plain-ok-spec : {M : Type 1} → statement M
+plain-ok-spec =
     tie.close
     (tie.spec
     name-at-requires
