@@ -126,7 +126,8 @@ pub fn edges_ok(es: &[u8], a: &[u16; 49], roles: u8, size: u8) -> bool
     ensures { λ q. ⌜ q ≡ edgesCode (now (a .entry)) (upTo 16 roles) size (now (es .entry)) ⌝ }
 {
     let k = edge_count(es);
-    let held = edges_hold(es, k, a, up_to(16, roles as usize), size);
-    let free = edges_compatible(es, k, a);
-    held & free
+    if !edges_hold(es, k, a, up_to(16, roles as usize), size) {
+        return false;
+    }
+    edges_compatible(es, k, a)
 }
