@@ -4,10 +4,4 @@ pub mod Widths
 pub mod ThreePairs
 pub mod InTable
 pub mod Cut
-pub mod Trials
-pub mod Others
-pub mod Steps
 pub mod ClaimExact
-pub mod ClaimTrials
-pub mod WideTrials
-pub mod DisjointTrials

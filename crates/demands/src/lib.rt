@@ -1,1 +1,1 @@
-// Definitions and theorems only, in specs/: the owner's demands and the paper's trials, on bytes.
+// Definitions and theorems only, in specs/: the owner's demands, on bytes.

@@ -1,4 +1,4 @@
--- Worked examples: bytes of a description and of evidence, and the answer; each test on both sides. (P1 to P10 stand in demands/Trials.)
+-- Worked examples: bytes of a description and of evidence, and the answer; each test on both sides. (P1 to P10 stand in trials/Trials.)
 use Prim.Native.Nat.{ℕ, _+_, _*_, _/_, _%_}
 use mathlib.Core.Path.{_≡_, refl}
 use mathlib.Core.List.{List, [], _∷_, _++_, map}

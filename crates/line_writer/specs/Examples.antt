@@ -1,4 +1,4 @@
--- Worked examples: what the writer answers and leaves, and what the reader answers to such lines. (P4 itself stands in demands/Trials.)
+-- Worked examples: what the writer answers and leaves, and what the reader answers to such lines. (P4 itself stands in trials/Trials.)
 use Prim.Native.Nat.{ℕ, zero, suc, _*_}
 use mathlib.Core.Path.{_≡_, refl}
 use mathlib.Core.List.{List, [], _∷_, _++_, map}

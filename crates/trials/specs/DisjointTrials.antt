@@ -5,7 +5,7 @@ use mathlib.Core.Path.{_≡_, refl}
 use mathlib.Core.List.{List, [], _∷_, _++_, map}
 use lib.ListN.{length}
 use Rattle.answers.specs.Answers.{REFUSED, INHABITED, EMPTY, WRITTEN, HOLDS-OF-NOTHING}
-use Rattle.demands.specs.Trials.{Trial, checks, writes, judges, Outcome, tells, leaves, outcome, told}
+use Rattle.trials.specs.Trials.{Trial, checks, writes, judges, Outcome, tells, leaves, outcome, told}
 
 abbrev number : ℕ → List ℕ
 number n = n / 256 ∷ n % 256 ∷ []

@@ -3,7 +3,7 @@ use Prim.Native.Nat.{ℕ}
 use mathlib.Core.Path.{_≡_, refl}
 use mathlib.Core.List.{List, [], _∷_, map}
 use Rattle.answers.specs.Answers.{REFUSED, EMPTY}
-use Rattle.demands.specs.Trials.{Trial, checks, Outcome, tells, outcome, told}
+use Rattle.trials.specs.Trials.{Trial, checks, Outcome, tells, outcome, told}
 
 -- names A 2 and B 4; 6 A and B; the root 7, not both; rules 0 and 1, A and B
 named : List ℕ

@@ -28,8 +28,8 @@ use Rattle.encoding.specs.Encoding.{encodeGraph, encodeRecord, encodeRefutation
 use Rattle.intake.specs.Intake.{described}
 use Rattle.evidence.specs.Evidence.{layoutOf}
 use Rattle.answers.specs.Answers.{REFUSED, INHABITED, EMPTY}
 use Rattle.demands.specs.Exact.{graphOf, inhabited-true, empty-true}
-use Rattle.demands.specs.Trials.{Trial, checks, Outcome, tells, outcome, told}
+use Rattle.trials.specs.Trials.{Trial, checks, Outcome, tells, outcome, told}
 
 -- records 0 to 2 of both refutations: names A 2, B 4 and C 6 with their complements
 abbrev names : Refutation

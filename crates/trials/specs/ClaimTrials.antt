@@ -3,7 +3,7 @@ use Prim.Native.Nat.{ℕ}
 use mathlib.Core.Path.{_≡_, refl}
 use mathlib.Core.List.{List, [], _∷_, map}
 use Rattle.answers.specs.Answers.{REFUSED, HOLDS, FAILS, HOLDS-OF-NOTHING}
-use Rattle.demands.specs.Trials.{Trial, judges, Outcome, tells, outcome, told}
+use Rattle.trials.specs.Trials.{Trial, judges, Outcome, tells, outcome, told}
 
 -- one role, the entry top, and a root; the same with a name, which is literal 2
 abbrev top : ℕ → List ℕ
