@@ -23,7 +23,7 @@ pub fn role_bit(r: u8) -> u16
 }
 
 // The two roles of record `i`.
-pub fn pair_mask(ps: &[u8], i: u8) -> u16
+pub(crate) fn pair_mask(ps: &[u8], i: u8) -> u16
     ensures { λ r. ⌜ r ≡ pairMask (now (ps .entry)) i ⌝ }
 {
     let at = 2 * (i as usize);
