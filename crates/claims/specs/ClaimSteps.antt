@@ -17,8 +17,8 @@ use Rattle.tables.specs.Tables.{recordsIn, isThere, describe}
 use Rattle.labels.specs.Labels.{mostEntries, labelWith}
 use Rattle.roles.specs.Ancestors.{roleCount}
 use Rattle.roles.specs.Records.{MasksOf}
-use Rattle.intake.specs.Intake.{four, disjointPart, rolesPart, conceptsPart, queryPart, partsTest, parts-accepted, bytesTest}
-use Rattle.intake.specs.Steps.{four-there}
+use Rattle.directory.specs.Directory.{four, four-there, disjointPart, rolesPart, conceptsPart, queryPart}
+use Rattle.intake.specs.Intake.{partsTest, parts-accepted, bytesTest}
 use Rattle.intake.specs.Opening.{wholly-none, parts-fine}
 use Rattle.nodes.specs.NodeSteps.{opposed, put-is}
 use Rattle.evidence.specs.Evidence.{headOf}

@@ -27,7 +27,8 @@ use Rattle.refutation.specs.Records.{Cell, unshown, cited, barred, CellFits}
 use Rattle.refutation.specs.RecordTests.{ifCited, knownLabel, knows, answerFor, cellFits}
 use Rattle.tables.specs.Tables.{describe}
 use Rattle.labels.specs.Labels.{wide, mostEntries}
-use Rattle.intake.specs.Intake.{four, rolesPart, conceptsPart, queryPart, described, three-pairs, mostRoles, mostRules, recordsTest, sizesTest}
+use Rattle.directory.specs.Directory.{four, rolesPart, conceptsPart, queryPart}
+use Rattle.intake.specs.Intake.{described, three-pairs, mostRoles, mostRules, recordsTest, sizesTest}
 use Rattle.intake.specs.Intake.{roleForm, entryForm, partsTest, bytesTest}
 use Rattle.evidence.specs.Evidence.{layoutOf}
 use Rattle.list_form.specs.ListForm.{cellOf}

@@ -20,7 +20,8 @@ use Rattle.laying.specs.Numbers.{two, two-bytes}
 use Rattle.description.specs.Descriptions.{Fields, fieldsOf, top}
 use Rattle.tables.specs.Tables.{fieldsAt}
 use Rattle.labels.specs.Labels.{mostEntries}
-use Rattle.intake.specs.Intake.{four, rolesPart, conceptsPart, queryPart, described, mostRoles, mostRules, mostDisjoints, bytesTest, AcceptedBytes}
+use Rattle.directory.specs.Directory.{four, rolesPart, conceptsPart, queryPart}
+use Rattle.intake.specs.Intake.{described, mostRoles, mostRules, mostDisjoints, bytesTest, AcceptedBytes}
 use Rattle.intake.specs.Intake.{accepted-bytes↔, accepted-sizes}
 use Rattle.editing.specs.Editing.{RoleIn, loneRole, Draft, isSet, rootOf, Made}
 use Rattle.editing.specs.Kept.{Few}

@@ -22,7 +22,8 @@ use Rattle.description.specs.Descriptions.{Description, Entry, Fields, fieldsOf
 use Rattle.description.specs.Acceptance.{descriptionTests, literalTest}
 use Rattle.tables.specs.Tables.{fieldsAt, describe}
 use Rattle.labels.specs.Labels.{mostEntries}
-use Rattle.intake.specs.Intake.{four, rolesPart, conceptsPart, queryPart, described, three-pairs, mostRoles, mostRules, sizesTest, recordsTest, partsTest}
+use Rattle.directory.specs.Directory.{four, rolesPart, conceptsPart, queryPart}
+use Rattle.intake.specs.Intake.{described, three-pairs, mostRoles, mostRules, sizesTest, recordsTest, partsTest}
 use Rattle.intake.specs.Intake.{bytesTest}
 use Rattle.intake.specs.Intake as Bytes
 use Rattle.answers.specs.Answers.{wholly, answer, WRITTEN, told↔}

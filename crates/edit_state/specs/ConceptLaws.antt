@@ -24,8 +24,9 @@ use Rattle.tables.specs.Concepts.{fieldsIn}
 use Rattle.tables.specs.declared.Fields as Code
 use Rattle.roles.specs.declared.Role.{Role}
 use Rattle.roles.specs.Records.{roleTable}
-use Rattle.intake.specs.Everys.{everyAt}
-use Rattle.intake.specs.Steps.{simpleAt, twinAt, fields-are}
+use Rattle.entry_tests.specs.Everys.{everyAt}
+use Rattle.entry_tests.specs.Entries.{simpleAt, twinAt}
+use Rattle.intake.specs.Steps.{fields-are}
 use Rattle.answers.specs.declared.Change.{Change}
 use Rattle.answers.specs.declared.Change.the-variants.{Done, Refused}
 use Rattle.answers.specs.Answers.{wholly, answer, DONE, ofChange}

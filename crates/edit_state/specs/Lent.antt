@@ -16,8 +16,8 @@ use Rattle.answers.specs.declared.Change.{Change}
 use Rattle.answers.specs.declared.Change.the-variants.{Done, Refused}
 use Rattle.answers.specs.declared.Output as Outputs
 use Rattle.answers.specs.Answers.{wholly, Word, REFUSED, DONE, WRITTEN, Answer, answer, ofChange, ofOutput, sizeOf}
-use Rattle.intake.specs.Everys.{everyAt}
-use Rattle.intake.specs.Steps.{simpleAt, twinAt}
+use Rattle.entry_tests.specs.Everys.{everyAt}
+use Rattle.entry_tests.specs.Entries.{simpleAt, twinAt}
 use Rattle.edit_lay.specs.Lays.{withParent}
 use Rattle.editing.specs.Editing.{Draft, isSet, nothing, Edit, refusal, edited, Made}
 use Rattle.edit_bytes.specs.Out.{rolesOut, conceptsOut, queryOut, outAnswer, outLength, outBuffer}

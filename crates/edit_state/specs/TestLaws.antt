@@ -17,8 +17,9 @@ use Rattle.tables.specs.Tables.{fieldsAt, fieldsTest, describe}
 use Rattle.roles.specs.Ancestors.{roleCount}
 use Rattle.roles.specs.Records.{roleTable}
 use Rattle.roles.specs.declared.Role.{Role}
-use Rattle.intake.specs.Everys.{everyAt}
-use Rattle.intake.specs.Steps.{simpleAt, twinAt, simplesCode, everysCode, entries-are, simple-at, distinct-at, every-at, simples-are}
+use Rattle.entry_tests.specs.Everys.{everyAt}
+use Rattle.entry_tests.specs.Entries.{simpleAt, twinAt}
+use Rattle.intake.specs.Steps.{simplesCode, everysCode, entries-are, simple-at, distinct-at, every-at, simples-are}
 use Rattle.intake.specs.Steps.{everys-are}
 use Rattle.editing.specs.Editing.{Draft, describes, entryForm}
 use Rattle.editing.specs.Kept.{Few}

@@ -2,16 +2,16 @@
 use Prim.Native.Nat.{ℕ, _+_, _*_, _/_, _%_, _≤_, _<_}
 use mathlib.Core.Path.{_≡_, refl}
 use mathlib.Core.Logic.{_↔_}
-use mathlib.Core.Bool.{Bool, true, false, cond, _&&_}
+use mathlib.Core.Bool.{Bool, false, _&&_}
 use mathlib.Core.List.{List}
-use mathlib.Core.Option.{Option, none, some}
+use mathlib.Core.Option.{Option, none}
 use native.Mathlib.Omega.{arith}
 use lib.Dec.{eqb, leb}
 use lib.ListN.{length}
 use Rattle.logic.specs.Tests.{So, so-leb, leb-so, reading}
 use Rattle.logic.specs.Refusals.{unless, unless↔}
 use Rattle.parts.specs.Numbers.{byteAt}
-use Rattle.parts.specs.Pairs.{offsetAt, partAt, fills, Fills, fills↔}
+use Rattle.parts.specs.Pairs.{fills, Fills, fills↔}
 use Rattle.description.specs.Descriptions.{Description, fieldsOf, entryOfFields, sameFields, sameFields↔}
 use Rattle.description.specs.Acceptance.{Accepted, descriptionTests, formed↔}
 use Rattle.tables.specs.Tables.{fieldsAt, recordsIn, describe}
@@ -19,31 +19,7 @@ use Rattle.labels.specs.Labels.{mostEntries}
 use Rattle.answers.specs.declared.Tested.{Tested}
 use Rattle.answers.specs.declared.Tested.the-variants.{Fine}
 use Rattle.answers.specs.Answers.{refusalOf, wholly, fine↔}
-
--- ---- 1: the directory
--- whether there is a fourth pair: the first offset is 16
-abbrev pub four : List ℕ → Bool
-four d = eqb (offsetAt d 0 0) 16
-
-abbrev pub pairCount : List ℕ → ℕ
-pairCount d = cond (four d) 4 3
-
--- three pairs at 0 fill the description from 12, or four from 16
-abbrev pub directoryTest : List ℕ → Bool
-directoryTest d = fills d 0 (pairCount d) (4 * pairCount d)
-
-abbrev pub rolesPart : List ℕ → List ℕ
-rolesPart d = partAt d 0 0
-
-abbrev pub conceptsPart : List ℕ → List ℕ
-conceptsPart d = partAt d 0 1
-
-abbrev pub queryPart : List ℕ → List ℕ
-queryPart d = partAt d 0 2
-
--- the fourth part, of roles that never share a filler
-abbrev pub disjointPart : List ℕ → Option (List ℕ)
-disjointPart d = cond (four d) (some (partAt d 0 3)) none
+use Rattle.directory.specs.Directory.{four, pairCount, directoryTest, rolesPart, conceptsPart, queryPart, disjointPart}
 
 -- the description that the bytes are
 abbrev pub described : List ℕ → Description

@@ -1,5 +1,4 @@
 pub mod Intake
-pub mod Everys
 pub mod Steps
 pub mod Order
 pub mod Opening

@@ -8,8 +8,9 @@ use Rattle.tables.specs.Tables.{recordsIn}
 use Rattle.roles.specs.Ancestors.{roleCount}
 use Rattle.roles.specs.Records.{MasksOf}
 use Rattle.answers.specs.Answers.{refusalOf, wholly}
+use Rattle.directory.specs.Directory.{directoryTest, rolesPart, conceptsPart, queryPart, disjointPart}
 use Rattle.intake.specs.declared.Opening.{Opening}
-use Rattle.intake.specs.Intake.{directoryTest, rolesPart, conceptsPart, queryPart, disjointPart, partsTest, bytesTest}
+use Rattle.intake.specs.Intake.{partsTest, bytesTest}
 
 pub record Opens (d : List ℕ) (o : Opening) : Type 0 where
   pub tested : refusalOf (o .tested) ≡ wholly (bytesTest d)

@@ -12,7 +12,8 @@ use Rattle.roles.specs.Records.{roleTable}
 use Rattle.roles.specs.declared.Role.{Role}
 use Rattle.answers.specs.declared.Tested.the-variants.{Fine, Refused}
 use Rattle.answers.specs.Answers.{refusalOf, wholly}
-use Rattle.intake.specs.Intake.{directoryTest, rolesPart, conceptsPart, queryPart, disjointPart, sizesTest, bytesTest}
+use Rattle.directory.specs.Directory.{directoryTest, rolesPart, conceptsPart, queryPart, disjointPart}
+use Rattle.intake.specs.Intake.{sizesTest, bytesTest}
 use Rattle.intake.specs.Steps.{rolesCode, entriesCode, simplesCode, distinctsCode, everysCode, queryCode, disjointsCode, laterTest, stepsTest, steps-are}
 
 module _ (cs qs ps : List ℕ) (t : List Role) (n : ℕ) where

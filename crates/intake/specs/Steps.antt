@@ -1,47 +1,36 @@
 -- The tests of single items as the code makes them, on bytes and role records, and that in their order they are the tests of the description.
 use Prim.Native.Nat.{ℕ, zero, suc, _+_, _-_, _*_, _/_, _%_, _≤_, _<_}
 use mathlib.Core.Path.{_≡_, refl, sym, _∙_, ap, ap₂, subst}
-use mathlib.Core.Bool.{Bool, true, false, cond, not, _&&_, _||_}
-use mathlib.Core.List.{List, []}
-use mathlib.Core.Option.{Option, none, some}
+use mathlib.Core.Bool.{Bool, true, false, not, _&&_}
+use mathlib.Core.List.{List}
+use mathlib.Core.Option.{Option, none}
 use native.Mathlib.Omega.{arith}
 use native.Mathlib.Nat.{mod-eq-of-lt}
 use native.Mathlib.Numerals.{add-one}
-use borrow.Author.Tests.{le-ltb, le-leb, eq-eqb}
 use lib.Dec.{eqb, leb, ltb}
 use lib.ListN.{length}
-use Rattle.logic.specs.Tests.{not-and, So, _⇒_, so-and, and-l, and-r, so-ltb, ltb-so, so-leb, so-false, same-test}
+use Rattle.logic.specs.Tests.{not-and, So, _⇒_, so-and, and-l, and-r, so-ltb, ltb-so, same-test}
 use Rattle.logic.specs.Bounded.{allBelow, all-intro, all-elim, all-cong}
 use Rattle.logic.specs.Sets.{narrow}
 use Rattle.logic.specs.Refusals.{unless, unless-then}
 use Rattle.parts.specs.Numbers.{byteAt, num2, upTo, up-to-all}
-use Rattle.parts.specs.Pairs.{partAt, fills}
 use Rattle.description.specs.Literals.{literal, code, entryOf, code-literal, code-entry}
-use Rattle.description.specs.Descriptions.{Entry, top, name, both, every, atLeast, Description, Fields, fieldsOf, entryFrom, entryOfFields, entry-back, sameFields, sameFields↔, sameEntry, compound, ifEvery, ifLeast}
+use Rattle.description.specs.Descriptions.{Entry, top, name, both, every, atLeast, Description, Fields, fieldsOf, entryOfFields, entry-back, sameFields, sameFields↔, sameEntry, compound, ifEvery, ifLeast}
 use Rattle.description.specs.Roles.{simple}
 use Rattle.description.specs.Acceptance.{entryTest, simpleTest, distinctTest, everyBelowTest, literalTest, entriesTest, simplesTest, distinctsTest, everysTest, queryTest, disjointTest, disjointsTest, descriptionTests, entry↔, EntryOk}
 use Rattle.labels.specs.Labels.{mostEntries}
-use Rattle.tables.specs.Concepts.{fieldsStruct, fieldsIn}
-use Rattle.tables.specs.declared.Fields as Code
-use Rattle.tables.specs.Tables.{entryCount, fieldsAt, recordsIn, isThere, describe, fieldsTest, fields↔}
+use Rattle.tables.specs.Tables.{entryCount, fieldsAt, recordsIn, describe, fieldsTest, fields↔}
 use Rattle.roles.specs.Ancestors.{roleCount}
 use Rattle.roles.specs.Disjoint.{disjointCount}
 use Rattle.roles.specs.Records.{roleAt, roleTable, table-simple}
 use Rattle.roles.specs.declared.Role.{Role}
-use Rattle.intake.specs.Intake.{four, pairCount, directoryTest, disjointPart, mostRoles, recordsTest, sizesTest, sizes-few, entryForm, partsTest}
-use Rattle.intake.specs.Everys.{belowIn, allThere, everyAt, every-there-is}
+use Rattle.entry_tests.specs.Everys.{belowIn, allThere, everyAt, every-there-is}
+use Rattle.entry_tests.specs.Entries.{simpleAt, twinAt}
+use Rattle.intake.specs.Intake.{mostRoles, recordsTest, sizesTest, sizes-few, entryForm, partsTest}
 
 -- 3, of one role: its transitive byte, and its parents
 abbrev pub roleKept : List ℕ → ℕ → Bool
 roleKept rs r = leb (byteAt rs (3 * r)) 1 && narrow (num2 rs (3 * r + 1)) (length rs / 3)
-
--- 5, of one entry, with the role records
-abbrev pub simpleAt : List ℕ → List Role → ℕ → Bool
-simpleAt cs t e = ifLeast (λ r l n. roleAt t (r % 16) .simple) (entryOfFields (fieldsAt cs e))
-
--- 6, of entry f against the earlier e, by their fields
-abbrev pub twinAt : List ℕ → ℕ → ℕ → Bool
-twinAt cs f e = leb 2 (byteAt cs (6 * e)) && sameFields (fieldsAt cs e) (fieldsAt cs f)
 
 -- 26, of record i, with the first n role records: two of these roles, not the same, both simple
 abbrev pub disjointKept : List ℕ → List Role → ℕ → ℕ → Bool
@@ -238,61 +227,6 @@ pub sizes-read : (rs cs qs ps : List ℕ) (x y : Bool) → x ≡ recordsTest 3 m
 unfolding sizesTest
 sizes-read rs cs qs ps x y p q = rw (p, q) refl
 
--- the pairs are counted as the code counts them, and the fourth part is the slice that it reads
-pub directory-read : (d : List ℕ) (n k : ℕ) → n ≡ pairCount d → k ≡ 4 * n → fills d 0 n k ≡ directoryTest d
-directory-read d n k p q = rw (q, p) refl
-
-pub part-there : (d : List ℕ) → four d ≡ true → partAt d 0 3 ≡ recordsIn (disjointPart d)
-part-there d e = rw e refl
-
-pub no-part : (d : List ℕ) → four d ≡ false → [] ≡ recordsIn (disjointPart d)
-no-part d e = rw e refl
-
-pub four-there : (d : List ℕ) → isThere (disjointPart d) ≡ four d
-four-there d = go (four d)
-  where
-    go : (b : Bool) → isThere (cond b (some (partAt d 0 3)) none) ≡ b
-    go true = refl
-    go false = refl
-
 pub disjoint-read : (ps : List ℕ) (t : List Role) (n i r s : ℕ) (q : Bool) → r ≡ byteAt ps (2 * i) → s ≡ byteAt ps (2 * i + 1)
     → q ≡ ((ltb r n && ltb s n) && (not (eqb r s) && (roleAt t (r % 16) .simple && roleAt t (s % 16) .simple))) → q ≡ disjointKept ps t n i
 disjoint-read ps t n i r s q e f g = rw (← e, ← f) g
-
--- fields that the code has read
-module _ (cs : List ℕ) where
-  least-by-kind : (p : ℕ → Bool) (k r a b n : ℕ) → (ltb k 4 || p r) ≡ ifLeast (λ r l n. p r) (entryFrom k r a b n)
-  unfolding entryFrom ifLeast
-  least-by-kind p zero r a b n = refl
-  least-by-kind p (suc zero) r a b n = refl
-  least-by-kind p (suc (suc zero)) r a b n = refl
-  least-by-kind p (suc (suc (suc zero))) r a b n = refl
-  least-by-kind p (suc (suc (suc (suc k)))) r a b n = rw (le-ltb (suc (suc (suc (suc k)))) 4 (omega arith)) refl
-
-  pub simple-read : (t : List Role) (e : ℕ) (g : Code.Fields) → g ≡ fieldsStruct cs e → (ltb (g .kind) 4 || roleAt t (g .role % 16) .simple) ≡ simpleAt cs t e
-  simple-read t e g q = let F = fieldsAt cs e in rw q (least-by-kind (λ r. roleAt t (r % 16) .simple) (F .kind) (F .role) (F .first) (F .second) (F .number))
-
-  module _ (e : ℕ) (a b : Code.Fields) (p : a ≡ fieldsStruct cs e) where
-    pub other-role : (a .role ≡ b .role → ⊥) → false ≡ sameFields (fieldsAt cs e) (fieldsIn b)
-    other-role n = sym (so-false (sameFields (fieldsAt cs e) (fieldsIn b)) (λ u. n (ap (λ a. a .role) p ∙ ap (λ F. F .role) (sameFields↔ (fieldsAt cs e) (fieldsIn b) .0 u))))
-
-    pub other-first : (a .first ≡ b .first → ⊥) → false ≡ sameFields (fieldsAt cs e) (fieldsIn b)
-    other-first n = sym (so-false (sameFields (fieldsAt cs e) (fieldsIn b)) (λ u. n (ap (λ a. a .first) p ∙ ap (λ F. F .first) (sameFields↔ (fieldsAt cs e) (fieldsIn b) .0 u))))
-
-    pub twin-read : a .role ≡ b .role → a .first ≡ b .first
-        → (eqb (a .kind) (b .kind) && (eqb (a .second) (b .second) && eqb (a .number) (b .number))) ≡ sameFields (fieldsAt cs e) (fieldsIn b)
-    twin-read r f = ap (λ t. eqb (a .kind) (b .kind) && t) (sym (ap (λ t. t && (eqb (a .first) (b .first) && (eqb (a .second) (b .second) && eqb (a .number) (b .number)))) (eq-eqb (a .role) (b .role) r)
-        ∙ ap (λ t. t && (eqb (a .second) (b .second) && eqb (a .number) (b .number))) (eq-eqb (a .first) (b .first) f))) ∙ rw p refl
-
-  -- a twin of entry f has its kind
-  module _ (f : ℕ) (b : Code.Fields) (q : b ≡ fieldsStruct cs f) where
-    pub twins-here : 2 ≤ b .kind → allBelow f (λ e. not (sameFields (fieldsAt cs e) (fieldsIn b))) ≡ allBelow f (λ e. not (twinAt cs f e))
-    twins-here h = all-cong f _ _ (λ e _. ap not (ap (λ b. sameFields (fieldsAt cs e) (fieldsIn b)) q ∙ same-test _ _
-        (λ u. so-and (leb 2 (fieldsAt cs e .kind)) (sameFields (fieldsAt cs e) (fieldsAt cs f)) (le-leb 2 (fieldsAt cs e .kind) (
-        let z = ap (λ F. F .kind) (sameFields↔ (fieldsAt cs e) (fieldsAt cs f) .0 u) in let w = ap (λ g. g .kind) q in omega arith)) u)
-        (λ u. and-r (leb 2 (fieldsAt cs e .kind)) _ u)))
-
-    pub no-twin : b .kind < 2 → true ≡ allBelow f (λ e. not (twinAt cs f e))
-    no-twin h = sym (all-intro f (λ e. not (twinAt cs f e)) (λ e _. ap not (so-false (twinAt cs f e) (λ u.
-        let z = ap (λ F. F .kind) (sameFields↔ (fieldsAt cs e) (fieldsAt cs f) .0 (and-r (leb 2 (fieldsAt cs e .kind)) _ u)) in
-        let w = ap (λ g. g .kind) q in let v = so-leb 2 (fieldsAt cs e .kind) (and-l (leb 2 (fieldsAt cs e .kind)) _ u) in omega arith))))

@@ -1,32 +1,33 @@
 // Tests 1 to 8 and 26 of a description, and the masks that evidence asks of its role records and of its fourth part.
-pub mod everys;
-
 ghost use mathlib.Core.Path.{_≡_};
-ghost use mathlib.Core.Bool.{not, _&&_, _||_};
+ghost use mathlib.Core.Bool.{not, _&&_};
 ghost use Prim.Native.Nat.{_+_, _*_, _/_, _%_, _≤_};
 ghost use lib.Dec.{eqb, leb, ltb};
 ghost use lib.ListN.{length};
 ghost use Rattle.logic.specs.Bounded.{allBelow};
 ghost use Rattle.logic.specs.Sets.{narrow};
 ghost use Rattle.parts.specs.Numbers.{byteAt, num2, upTo};
-ghost use Rattle.description.specs.Descriptions.{sameFields};
-ghost use Rattle.tables.specs.Concepts.{fieldsIn};
-ghost use Rattle.tables.specs.Tables.{entryCount, fieldsAt, fieldsTest, recordsIn};
+ghost use Rattle.tables.specs.Tables.{fieldsAt, fieldsTest};
 ghost use Rattle.labels.specs.Labels.{mostEntries};
 ghost use Rattle.roles.specs.Records.{roleTable};
 ghost use Rattle.answers.specs.Answers.{refusalOf, wholly};
-ghost use Rattle.intake.specs.Intake.{four, pairCount, directoryTest, rolesPart, conceptsPart, queryPart, disjointPart};
+ghost use Rattle.directory.specs.Directory.{rolesPart};
+ghost use Rattle.entry_tests.specs.Entries.{twinAt};
 ghost use Rattle.intake.specs.Intake.{sizesTest, bytesTest};
-ghost use Rattle.intake.specs.Steps.{laterTest, stepsTest, roleKept, simpleAt, twinAt, disjointsCode};
+ghost use Rattle.intake.specs.Steps.{laterTest, stepsTest, roleKept, disjointsCode};
 ghost use Rattle.intake.specs.Opening.{Opens};
 use answers::Tested;
-use everys::everys_ok;
+use directory::concepts_part;
+use directory::directory_ok;
+use directory::disjoint_part;
+use directory::query_part;
+use directory::roles_part;
+use entry_tests::distinct_ok;
+use entry_tests::everys::everys_ok;
+use entry_tests::simples_ok;
 use labels::MOST_ENTRIES;
 use parts::byte;
 use parts::mask2;
-use parts::pairs_fill;
-use parts::part;
-use parts::read2;
 use roles::Role;
 use roles::disjoint::disjoint_count;
 use roles::fits16;
@@ -34,33 +35,8 @@ use roles::role_count;
 use roles::role_masks;
 use roles::role_table;
 use tables::EntryNo;
-use tables::Fields;
 use tables::RoleNo;
-use tables::entry_count;
 use tables::entry_ok;
-use tables::fields_at;
-
-// Whether the description has a fourth pair: the first offset is 16.
-pub fn has_four(d: &[u8]) -> bool
-    ensures { λ r. ⌜ r ≡ four (now (d .entry)) ⌝ }
-{
-    read2(d, 0) == 16
-}
-
-// The number of pairs.
-fn pair_count(d: &[u8]) -> u8
-    ensures { λ r. ⌜ (r ≡ pairCount (now (d .entry))) × (r ≤ 4) ⌝ }
-{
-    if has_four(d) { 4 } else { 3 }
-}
-
-// Test 1.
-fn directory_ok(d: &[u8]) -> bool
-    ensures { λ r. ⌜ r ≡ directoryTest (now (d .entry)) ⌝ }
-{
-    let n = pair_count(d);
-    pairs_fill(d, 0, n, 4 * (n as u16))
-}
 
 // A part of `len` bytes: whole records of `size` bytes, at least one, within `most` bytes.
 fn records_ok(len: usize, size: usize, most: usize) -> bool
@@ -115,72 +91,6 @@ fn entries_ok(cs: &[u8], roles: usize) -> bool
     let mut e: u8 = 0;
     while (e as usize) < n {
         if !entry_ok(cs, EntryNo(e), roles) {
-            return false;
-        }
-        e += 1;
-    }
-    true
-}
-
-// Test 5 of the entry with the fields `g`, by the record of its role.
-fn counts_simple(g: Fields, x: Role) -> bool
-    ensures { λ r. ⌜ r ≡ (ltb (g .kind) 4 || x .simple) ⌝ }
-{
-    (g.kind < 4) | x.simple
-}
-
-// Test 5 of one entry.
-pub fn simple_ok(cs: &[u8], e: EntryNo, t: [Role; 16]) -> bool
-    ensures { λ r. ⌜ r ≡ simpleAt (now (cs .entry)) t (e .0) ⌝ }
-{
-    let g = fields_at(cs, e);
-    let x = t[(g.role % 16) as usize];
-    counts_simple(g, x)
-}
-
-// Test 5. One record is read for each entry: the table would be copied for a call of `simple_ok`.
-pub fn simples_ok(cs: &[u8], t: [Role; 16]) -> bool
-    ensures { λ r. ⌜ r ≡ allBelow (entryCount (now (cs .entry))) (simpleAt (now (cs .entry)) t) ⌝ }
-{
-    let n = entry_count(cs);
-    let mut e: u8 = 0;
-    while e < n {
-        let g = fields_at(cs, EntryNo(e));
-        let x = t[(g.role % 16) as usize];
-        if !counts_simple(g, x) {
-            return false;
-        }
-        e += 1;
-    }
-    true
-}
-
-// Whether entry `e` has the fields `b`. Most entries differ in the role or in the first literal: the rest is then not read.
-fn is_twin(cs: &[u8], e: EntryNo, b: Fields) -> bool
-    ensures { λ r. ⌜ r ≡ sameFields (fieldsAt (now (cs .entry)) (e .0)) (fieldsIn b) ⌝ }
-{
-    let a = fields_at(cs, e);
-    if a.role != b.role {
-        return false;
-    }
-    if a.first != b.first {
-        return false;
-    }
-    (a.kind == b.kind) & ((a.second == b.second) & (a.number == b.number))
-}
-
-// Test 6 of entry `f`, against the earlier ones. Kinds 0 and 1 may be there twice.
-pub fn distinct_ok(cs: &[u8], f: EntryNo) -> bool
-    ensures { λ r. ⌜ r ≡ allBelow (f .0) (λ e. not (twinAt (now (cs .entry)) (f .0) e)) ⌝ }
-{
-    let b = fields_at(cs, f);
-    if b.kind < 2 {
-        return true;
-    }
-    let n = f.0;
-    let mut e: u8 = 0;
-    while e < n {
-        if is_twin(cs, EntryNo(e), b) {
             return false;
         }
         e += 1;
@@ -327,31 +237,6 @@ pub fn open_description(d: &[u8]) -> Opening
         masks: m,
         count: role_count(rs),
     }
-}
-
-// The parts of a description: roles, concepts, question, and roles that never share a filler.
-pub fn roles_part(d: &[u8]) -> &[u8]
-    ensures { λ r. ⌜ now r ≡ rolesPart (now (d .entry)) ⌝ }
-{
-    part(d, 0, 0)
-}
-
-pub fn concepts_part(d: &[u8]) -> &[u8]
-    ensures { λ r. ⌜ now r ≡ conceptsPart (now (d .entry)) ⌝ }
-{
-    part(d, 0, 1)
-}
-
-pub fn query_part(d: &[u8]) -> &[u8]
-    ensures { λ r. ⌜ now r ≡ queryPart (now (d .entry)) ⌝ }
-{
-    part(d, 0, 2)
-}
-
-pub fn disjoint_part(d: &[u8]) -> &[u8]
-    ensures { λ r. ⌜ now r ≡ recordsIn (disjointPart (now (d .entry))) ⌝ }
-{
-    if has_four(d) { part(d, 0, 3) } else { &d[..0] }
 }
 
 // Tests 1 to 8 and 26 of a description.

@@ -20,7 +20,8 @@ use Rattle.roles.specs.Records.{MasksOf, masks-compatible}
 use Rattle.answers.specs.declared.Tested.the-variants.{Fine, Refused}
 use Rattle.answers.specs.declared.Reading as Readings
 use Rattle.answers.specs.Answers.{Answer, Word, HOLDS, FAILS, REFUSED, answer, refusalOf, wholly, ofReading}
-use Rattle.intake.specs.Intake.{rolesPart, conceptsPart, queryPart, disjointPart, AcceptedParts, parts-accepted, bytesTest}
+use Rattle.directory.specs.Directory.{rolesPart, conceptsPart, queryPart, disjointPart}
+use Rattle.intake.specs.Intake.{AcceptedParts, parts-accepted, bytesTest}
 use Rattle.intake.specs.Opening.{wholly-none, parts-fine}
 use Rattle.interpretation.specs.Meaning.{Interpretation}
 use Rattle.interpretation.specs.Reading.{includes, composes, separates, follows, satisfies, reads}

@@ -23,7 +23,8 @@ use Rattle.description.specs.Descriptions.{Description, wanted}
 use Rattle.tables.specs.Tables.{recordsIn, describe}
 use Rattle.roles.specs.Ancestors.{roleCount}
 use Rattle.roles.specs.Records.{MasksOf}
-use Rattle.intake.specs.Intake.{rolesPart, conceptsPart, queryPart, disjointPart, partsTest, parts-accepted, bytesTest, described}
+use Rattle.directory.specs.Directory.{rolesPart, conceptsPart, queryPart, disjointPart}
+use Rattle.intake.specs.Intake.{partsTest, parts-accepted, bytesTest, described}
 use Rattle.intake.specs.Opening.{wholly-none, parts-fine}
 use Rattle.nodes.specs.NodeSteps.{rootSet}
 use Rattle.evidence.specs.InPlace.{edges-behind, edges-few}

@@ -16,8 +16,8 @@ use Rattle.edit_state.proofs.are_roles.Reads as are-roles-reads
 use Rattle.edit_state.proofs.count_at.Reads as count-at-reads
 use Rattle.edit_state.proofs.count_roles.Reads as count-roles-reads
 use Rattle.edit_state.proofs.records_with.Reads as records-with-reads
-use Rattle.intake.proofs.everys.everys_ok.Reads as everys-ok-reads
-use Rattle.intake.proofs.simples_ok.Reads as simples-ok-reads
+use Rattle.entry_tests.proofs.everys.everys_ok.Reads as everys-ok-reads
+use Rattle.entry_tests.proofs.simples_ok.Reads as simples-ok-reads
 use Rattle.parts.proofs.span.Reads as span-reads
 
 count-roles-requires : tie.Need-count-roles-requires

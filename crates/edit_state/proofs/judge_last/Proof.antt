@@ -5,9 +5,9 @@ use Rattle.edit_state.proofs.judge_last.Statement.{statement}
 use Rattle.edit_state.proofs.judge_last.Tie as tie
 use Rattle.edit_state.proofs.judge_last.Reads as reads
 use Rattle.edit_state.proofs.judge_last.Lts as lts
-use Rattle.intake.proofs.distinct_ok.Reads as distinct-ok-reads
-use Rattle.intake.proofs.everys.every_at.Reads as every-at-reads
-use Rattle.intake.proofs.simple_ok.Reads as simple-ok-reads
+use Rattle.entry_tests.proofs.distinct_ok.Reads as distinct-ok-reads
+use Rattle.entry_tests.proofs.everys.every_at.Reads as every-at-reads
+use Rattle.entry_tests.proofs.simple_ok.Reads as simple-ok-reads
 
 simple-ok-requires : tie.Need-simple-ok-requires
 simple-ok-requires c κs = search needs

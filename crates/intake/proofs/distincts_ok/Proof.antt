@@ -5,12 +5,12 @@ use native.Mathlib.Omega.{arith}
 use borrow.Author.Needs.{needs}
 use borrow.Author.Tests.{not-true, not-false}
 use Rattle.logic.specs.Bounded.{allBelow, all-none, all-stop, all-more, all-done}
-use Rattle.intake.specs.Steps.{twinAt}
+use Rattle.entry_tests.specs.Entries.{twinAt}
 use Rattle.intake.proofs.distincts_ok.Statement.{statement}
 use Rattle.intake.proofs.distincts_ok.Tie as tie
 use Rattle.intake.proofs.distincts_ok.Reads as reads
 use Rattle.intake.proofs.distincts_ok.Lts as lts
-use Rattle.intake.proofs.distinct_ok.Reads as distinct-ok-reads
+use Rattle.entry_tests.proofs.distinct_ok.Reads as distinct-ok-reads
 
 abbrev Inv-loop : tie.InvT-loop
 Inv-loop cs n f₀ f = (f ≤ n) × (allBelow f (λ f. allBelow f (λ e. not (twinAt cs f e))) ≡ true)

@@ -6,12 +6,12 @@ use Rattle.intake.proofs.test_bytes.Statement.{statement}
 use Rattle.intake.proofs.test_bytes.Tie as tie
 use Rattle.intake.proofs.test_bytes.Reads as reads
 use Rattle.intake.proofs.test_bytes.Lts as lts
-use Rattle.intake.proofs.disjoint_part.Reads as disjoint-part-reads
-use Rattle.intake.proofs.directory_ok.Reads as directory-ok-reads
+use Rattle.directory.proofs.disjoint_part.Reads as disjoint-part-reads
+use Rattle.directory.proofs.directory_ok.Reads as directory-ok-reads
 use Rattle.intake.proofs.test_parts.Reads as test-parts-reads
-use Rattle.intake.proofs.concepts_part.Reads as concepts-part-reads
-use Rattle.intake.proofs.query_part.Reads as query-part-reads
-use Rattle.intake.proofs.roles_part.Reads as roles-part-reads
+use Rattle.directory.proofs.concepts_part.Reads as concepts-part-reads
+use Rattle.directory.proofs.query_part.Reads as query-part-reads
+use Rattle.directory.proofs.roles_part.Reads as roles-part-reads
 
 directory-ok-requires : tie.Need-directory-ok-requires
 directory-ok-requires c κs = search needs

@@ -11,9 +11,9 @@ use Rattle.intake.proofs.test_later.Reads as reads
 use Rattle.intake.proofs.test_later.Lts as lts
 use Rattle.intake.proofs.disjoints_ok.Reads as disjoints-ok-reads
 use Rattle.intake.proofs.distincts_ok.Reads as distincts-ok-reads
-use Rattle.intake.proofs.everys.everys_ok.Reads as everys-ok-reads
+use Rattle.entry_tests.proofs.everys.everys_ok.Reads as everys-ok-reads
 use Rattle.intake.proofs.query_ok.Reads as query-ok-reads
-use Rattle.intake.proofs.simples_ok.Reads as simples-ok-reads
+use Rattle.entry_tests.proofs.simples_ok.Reads as simples-ok-reads
 
 simples-ok-requires : tie.Need-simples-ok-requires
 simples-ok-requires c κs = search needs

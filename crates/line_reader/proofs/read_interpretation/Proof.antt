@@ -3,17 +3,18 @@ use Rattle.answers.specs.declared.Tested.the-variants.{Fine}
 use Rattle.answers.specs.Answers.{refusalOf, wholly}
 use Rattle.tables.specs.Tables.{recordsIn}
 use Rattle.roles.specs.Records.{roleTable, roleMasks}
-use Rattle.intake.specs.Intake.{disjointPart, AcceptedParts, bytesTest}
+use Rattle.directory.specs.Directory.{disjointPart}
+use Rattle.intake.specs.Intake.{AcceptedParts, bytesTest}
 use Rattle.line_reader.specs.Order.{read-ready, read-opened, read-refused}
 use borrow.Author.Needs.{needs}
 use Rattle.line_reader.proofs.read_interpretation.Statement.{statement}
 use Rattle.line_reader.proofs.read_interpretation.Tie as tie
 use Rattle.line_reader.proofs.read_interpretation.Reads as reads
 use Rattle.line_reader.proofs.read_interpretation.Lts as lts
-use Rattle.intake.proofs.concepts_part.Reads as concepts-part-reads
+use Rattle.directory.proofs.concepts_part.Reads as concepts-part-reads
 use Rattle.intake.proofs.open_description.Reads as open-description-reads
-use Rattle.intake.proofs.query_part.Reads as query-part-reads
-use Rattle.intake.proofs.roles_part.Reads as roles-part-reads
+use Rattle.directory.proofs.query_part.Reads as query-part-reads
+use Rattle.directory.proofs.roles_part.Reads as roles-part-reads
 use Rattle.line_reader.proofs.read_line.Reads as read-line-reads
 
 open-description-requires : tie.Need-open-description-requires
