@@ -7,12 +7,11 @@ use mathlib.Core.Option.{Option, none, some}
 use native.Mathlib.Omega.{arith}
 use lib.ListN.{length, drop, replicate}
 use Rattle.laying.specs.Laying.{laid}
-use Rattle.answers.specs.declared.Change.{Change}
 use Rattle.answers.specs.declared.Change.the-variants.{Done, Refused}
 use Rattle.answers.specs.Answers.{wholly, answer, DONE, ofChange, unlessRefused}
 use Rattle.editing.specs.Editing.{Draft, nothing, Edit, putIn, refusal}
 use Rattle.edit_bytes.specs.Out.{rolesOut, conceptsOut}
-use Rattle.edit_state.specs.Lent.{stateBytes, filled, draftBytes, Lends, Keeps, Starts, Edits, Judges}
+use Rattle.edit_state.specs.Lent.{stateBytes, filled, draftBytes, Lends, Keeps, Starts, Edits}
 use Rattle.edit_state.specs.PlaceLaws.{enough, laid-beyond}
 
 -- ---- of every bytes
@@ -63,41 +62,10 @@ done-edits e old new h f g = record {
   keeps = keeps-done old new h g;
 }
 
--- ---- by what was answered before
-pub refused-judges : (e : Edit) (old : List ℕ) (n : ℕ) → n ≤ 25 → ((T : Draft) (rest : List ℕ) → Lends old T rest → refusal T e ≡ some n)
-    → Judges e old (Refused n 0)
-refused-judges e old n u f = record {
-  made = λ T rest l. sym (ap (λ o. answer DONE (wholly o)) (f T rest l));
-  told = inr (n, u, refl);
-}
-
-pub done-judges : (e : Edit) (old : List ℕ) → ((T : Draft) (rest : List ℕ) → Lends old T rest → refusal T e ≡ none) → Judges e old Done
-done-judges e old f = record { made = λ T rest l. sym (ap (λ o. answer DONE (wholly o)) (f T rest l)); told = inl refl }
-
 -- the draft stays
 pub stays : (T U : Draft) (n m : ℕ) (o : Option ℕ) → ofChange (Refused n m) ≡ answer DONE (wholly o) → T ≡ unlessRefused T U (wholly o)
 stays T U n m none e = absurd (let y = ap (λ a. a .word) e in let x : _≡_ {A = ℕ} 0 1 = cc in omega arith)
 stays T U n m (some k) e = refl
-
--- nothing refuses
-passes : (o : Option ℕ) → ofChange Done ≡ answer DONE (wholly o) → o ≡ none
-passes none e = refl
-passes (some k) e = absurd (let y = ap (λ a. a .word) e in let x : _≡_ {A = ℕ} 0 1 = cc in omega arith)
-
-pub judged-edits : (e : Edit) (old : List ℕ) (r : Change) (n m : ℕ) → stateBytes ≤ length old → r ≡ Refused n m → Judges e old r
-    → Edits e old r old
-judged-edits e old r n m h q f = record {
-  made = λ T rest l. (
-    f .made T rest l,
-    l .same ∙ ap (λ U. draftBytes U ++ rest)
-        (stays T (putIn T e) n m (refusal T e) (ap ofChange (sym q) ∙ f .made T rest l)),
-  );
-  keeps = record { told = f .told; kept = λ _ _ _. refl; beyond = refl; short = λ k. absurd (omega arith) };
-}
-
-pub allowed : (e : Edit) (old : List ℕ) (r : Change) → r ≡ Done → Judges e old r → (T : Draft) (rest : List ℕ) → Lends old T rest
-    → refusal T e ≡ none
-allowed e old r q f T rest l = passes (refusal T e) (ap ofChange (sym q) ∙ f .made T rest l)
 
 -- ---- the start
 pub short-starts : (old : List ℕ) → length old < stateBytes → Starts old (Refused 22 0) old

@@ -2,23 +2,18 @@
 -- each operation does to them.
 use Prim.Native.Nat.{ℕ, _+_, _-_, _*_, _≤_, _<_}
 use mathlib.Core.Path.{_≡_}
-use mathlib.Core.Bool.{Bool, true, false, not, cond}
+use mathlib.Core.Bool.{Bool, true, false}
 use mathlib.Core.Logic.{_⊎_}
 use mathlib.Core.List.{List, [], _∷_, _++_}
 use mathlib.Core.Option.{none, some}
 use lib.ListN.{length, replicate, take, drop}
-use Rattle.logic.specs.Bounded.{allBelow}
 use Rattle.parts.specs.Numbers.{byteAt, upTo}
-use Rattle.laying.specs.Laying.{laid}
 use Rattle.roles.specs.declared.Role.{Role}
 use Rattle.roles.specs.Records.{roleTable}
 use Rattle.answers.specs.declared.Change.{Change}
 use Rattle.answers.specs.declared.Change.the-variants.{Done, Refused}
 use Rattle.answers.specs.declared.Output as Outputs
 use Rattle.answers.specs.Answers.{wholly, Word, REFUSED, DONE, WRITTEN, Answer, answer, ofChange, ofOutput, sizeOf}
-use Rattle.entry_tests.specs.Everys.{everyAt}
-use Rattle.entry_tests.specs.Entries.{simpleAt, twinAt}
-use Rattle.edit_lay.specs.Lays.{withParent}
 use Rattle.editing.specs.Editing.{Draft, isSet, nothing, Edit, refusal, edited, Made}
 use Rattle.edit_bytes.specs.Out.{rolesOut, conceptsOut, queryOut, outAnswer, outLength, outBuffer}
 
@@ -91,15 +86,6 @@ tableIn bytes = roleTable (take (3 * rolesIn bytes) (drop rolesFrom bytes))
 abbrev pub sizeIn : List ℕ → ℕ
 sizeIn bytes = 13 + 3 * rolesIn bytes + 6 * entriesIn bytes + rulesIn bytes
 
--- the records of these roles with the bit of p in the parents of r
-abbrev pub tableWith : List ℕ → ℕ → ℕ → List Role
-tableWith rs r p = roleTable (take (length rs) (drop 0 (withParent (laid (replicate rolesRoom 0) 0 rs) (3 * r) p)))
-
--- 5, 6 and 7 of the last of the entries
-abbrev pub lastTest : List ℕ → ℕ → List Role → ℕ → Change
-lastTest cs e t n = cond (simpleAt cs t e)
-    (cond (allBelow e (λ f. not (twinAt cs e f))) (cond (everyAt cs t n e) Done (Refused 7 0)) (Refused 6 0)) (Refused 5 0)
-
 -- ---- what an operation does
 -- what is told: the word, or a refusal by one of the numbers up to 25, of record 0
 abbrev pub Told : Word → Answer → Type 0
@@ -122,11 +108,6 @@ pub record Edits (e : Edit) (old : List ℕ) (r : Change) (new : List ℕ) : Typ
   pub made : (T : Draft) (rest : List ℕ) → Lends old T rest
       → (ofChange r ≡ answer DONE (wholly (refusal T e))) × (new ≡ draftBytes (edited T e) ++ rest)
   pub keeps : Keeps old r new
-
--- the answer of an operation, before anything is changed
-pub record Judges (e : Edit) (bytes : List ℕ) (r : Change) : Type 0 where
-  pub made : (T : Draft) (rest : List ℕ) → Lends bytes T rest → ofChange r ≡ answer DONE (wholly (refusal T e))
-  pub told : Told DONE (ofChange r)
 
 -- writing out: of such bytes, the answer, how many bytes, and all bytes of the buffer; of every bytes, something is told, a refusal leaves
 -- the buffer, and nothing behind what is written changes, nor anything behind the longest output

@@ -3,9 +3,5 @@ pub mod FillLaws
 pub mod PlaceLaws
 pub mod Held
 pub mod EditLaws
-pub mod TestLaws
 pub mod RoleLaws
 pub mod QueryLaws
-pub mod InclusionLaws
-pub mod ConceptLaws
-pub mod WriteLaws

@@ -5,7 +5,7 @@ use mathlib.Core.Bool.{Bool, true, false}
 use mathlib.Core.List.{List, [], _∷_, _++_, append-assoc}
 use native.Mathlib.Omega.{arith}
 use lib.Dec.{eqb}
-use lib.ListN.{length, take, drop, length-append, List·getD-append}
+use lib.ListN.{length, take, drop, length-append, length-take, List·getD-append}
 use lib.Seq.{take-append-le, getD-append-add, drop-at, drop-append-add, drop-drop, length-take-le}
 use Rattle.parts.specs.Numbers.{byteAt, up-to-all}
 use Rattle.laying.specs.Laying.{laid}
@@ -85,6 +85,10 @@ laid-beyond old at w h l = ap (λ n. drop n (front ++ drop k old)) (let z : stat
 
     long : length front ≡ at + length w
     long = length-append (take at old) w ∙ ap (λ n. n + length w) (length-take-le at old (omega arith))
+
+-- ---- a span is no longer than what is asked for
+pub span-short : (n : ℕ) (s r : List ℕ) → r ≡ take n s → length r ≤ n
+span-short n s r e = rw e (omega (arith, length-take n s))
 
 -- ---- of a draft
 flag-back : (b : Bool) → eqb (flag b) 1 ≡ b

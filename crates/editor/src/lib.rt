@@ -1,4 +1,4 @@
-// The editor of a description: a state by value, and operations that give the next one. They are those on lent bytes (edit_state).
+// The editor of a description: a state by value, and operations that give the next one. They are those on lent bytes.
 ghost use mathlib.Core.Path.{_≡_};
 ghost use Prim.Native.Nat.{ℕ};
 ghost use lib.ListN.{length, drop};
@@ -14,15 +14,15 @@ ghost use Rattle.edit_state.specs.Lent.{rolesIn};
 ghost use Rattle.editor.specs.Holding.{Holds, Edits, stateAfter};
 use answers::Change;
 use answers::Output;
+use edit_judge::put_concept;
+use edit_judge::put_inclusion;
 use edit_state::STATE_BYTES;
 use edit_state::count_roles;
-use edit_state::put_concept;
-use edit_state::put_inclusion;
 use edit_state::put_role;
 use edit_state::put_root;
 use edit_state::put_rule;
 use edit_state::records;
-use edit_state::write_state;
+use edit_write::write_state;
 use roles::Role;
 use tables::Fields;
 use tables::RoleNo;

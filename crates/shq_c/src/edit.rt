@@ -8,13 +8,13 @@ ghost use Rattle.shq_c.specs.Edits.{conceptOf, Starts, Edits, Writes};
 use super::refused;
 use answers::Change;
 use answers::Output;
+use edit_judge::put_concept;
+use edit_judge::put_inclusion;
 use edit_state::clear;
-use edit_state::put_concept;
-use edit_state::put_inclusion;
 use edit_state::put_role;
 use edit_state::put_root;
 use edit_state::put_rule;
-use edit_state::write_state;
+use edit_write::write_state;
 use tables::Fields;
 use tables::RoleNo;
 

@@ -4,7 +4,7 @@ use Rattle.editor.proofs.add_concept.Statement.{statement}
 use Rattle.editor.proofs.add_concept.Tie as tie
 use Rattle.editor.proofs.add_concept.Reads as reads
 use Rattle.editor.proofs.add_concept.Lts as lts
-use Rattle.edit_state.proofs.put_concept.Reads as put-concept-reads
+use Rattle.edit_judge.proofs.put_concept.Reads as put-concept-reads
 use Rattle.editor.proofs.after.Reads as after-reads
 
 slice-aggregate-put-concept : tie.Need-slice-aggregate-put-concept

@@ -4,7 +4,7 @@ use Rattle.editor.proofs.add_inclusion.Statement.{statement}
 use Rattle.editor.proofs.add_inclusion.Tie as tie
 use Rattle.editor.proofs.add_inclusion.Reads as reads
 use Rattle.editor.proofs.add_inclusion.Lts as lts
-use Rattle.edit_state.proofs.put_inclusion.Reads as put-inclusion-reads
+use Rattle.edit_judge.proofs.put_inclusion.Reads as put-inclusion-reads
 use Rattle.editor.proofs.after.Reads as after-reads
 
 slice-aggregate-put-inclusion : tie.Need-slice-aggregate-put-inclusion

@@ -4,7 +4,7 @@ use Rattle.editor.proofs.write_out.Statement.{statement}
 use Rattle.editor.proofs.write_out.Tie as tie
 use Rattle.editor.proofs.write_out.Reads as reads
 use Rattle.editor.proofs.write_out.Lts as lts
-use Rattle.edit_state.proofs.write_state.Reads as write-state-reads
+use Rattle.edit_write.proofs.write_state.Reads as write-state-reads
 
 slice-aggregate-write-state : tie.Need-slice-aggregate-write-state
 slice-aggregate-write-state c = search needs

@@ -4,7 +4,7 @@ use Rattle.shq_c.proofs.edit.shq_edit_concept.Statement.{statement}
 use Rattle.shq_c.proofs.edit.shq_edit_concept.Tie as tie
 use Rattle.shq_c.proofs.edit.shq_edit_concept.Reads as reads
 use Rattle.shq_c.proofs.edit.shq_edit_concept.Lts as lts
-use Rattle.edit_state.proofs.put_concept.Reads as put-concept-reads
+use Rattle.edit_judge.proofs.put_concept.Reads as put-concept-reads
 use Rattle.shq_c.proofs.edit.of_change.Reads as of-change-reads
 
 put-concept-requires : tie.Need-put-concept-requires

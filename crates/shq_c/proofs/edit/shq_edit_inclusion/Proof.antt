@@ -4,7 +4,7 @@ use Rattle.shq_c.proofs.edit.shq_edit_inclusion.Statement.{statement}
 use Rattle.shq_c.proofs.edit.shq_edit_inclusion.Tie as tie
 use Rattle.shq_c.proofs.edit.shq_edit_inclusion.Reads as reads
 use Rattle.shq_c.proofs.edit.shq_edit_inclusion.Lts as lts
-use Rattle.edit_state.proofs.put_inclusion.Reads as put-inclusion-reads
+use Rattle.edit_judge.proofs.put_inclusion.Reads as put-inclusion-reads
 use Rattle.shq_c.proofs.edit.of_change.Reads as of-change-reads
 
 put-inclusion-requires : tie.Need-put-inclusion-requires

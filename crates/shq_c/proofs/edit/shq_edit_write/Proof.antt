@@ -4,7 +4,7 @@ use Rattle.shq_c.proofs.edit.shq_edit_write.Statement.{statement}
 use Rattle.shq_c.proofs.edit.shq_edit_write.Tie as tie
 use Rattle.shq_c.proofs.edit.shq_edit_write.Reads as reads
 use Rattle.shq_c.proofs.edit.shq_edit_write.Lts as lts
-use Rattle.edit_state.proofs.write_state.Reads as write-state-reads
+use Rattle.edit_write.proofs.write_state.Reads as write-state-reads
 use Rattle.shq_c.proofs.edit.of_output.Reads as of-output-reads
 
 write-state-requires : tie.Need-write-state-requires

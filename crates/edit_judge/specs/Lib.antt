@@ -1,0 +1,4 @@
+pub mod Judging
+pub mod TestLaws
+pub mod InclusionLaws
+pub mod ConceptLaws
