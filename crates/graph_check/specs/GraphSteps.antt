@@ -16,8 +16,9 @@ use Rattle.evidence.specs.Evidence.{recordCount, layoutFor, edgesPart, nodeForm
 use Rattle.nodes.specs.NodeSteps.{labelCode, requiredSet, bothAt}
 use Rattle.tables.specs.Tables.{entryCount}
 use Rattle.edges.specs.EdgeSteps.{edgesCode}
-use Rattle.fillers.specs.FillerSteps.{everysCode, countsCode}
-use Rattle.fillers.specs.Sources.{SourcesOf, everysWith, everys-with}
+use Rattle.sources.specs.Sources.{SourcesOf}
+use Rattle.fillers.specs.FillerSteps.{everysCode, everysWith, countsCode}
+use Rattle.fillers.specs.FillerLaws.{everys-with}
 use Rattle.answers.specs.declared.Tested.the-variants.{Refused}
 use Rattle.answers.specs.Answers.{refusalOf}
 use Rattle.graph_check.specs.GraphEvidence.{graphHead}

@@ -16,7 +16,6 @@ use evidence::node_form_ok;
 use evidence::read_head;
 use evidence::record_edges;
 use evidence::record_label;
-use fillers::sources;
 use fillers::test_fillers;
 use labels::Label;
 use labels::MOST_ENTRIES;
@@ -26,6 +25,7 @@ use nodes::label_ok;
 use nodes::required;
 use nodes::root_set;
 use parts::read2;
+use sources::sources;
 
 // Test 10 of record `i`.
 fn form_ok(s: &[u8], i: u8, f: Layout) -> bool

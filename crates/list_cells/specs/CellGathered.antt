@@ -4,10 +4,13 @@ use mathlib.Core.Path.{_≡_, refl, sym, _∙_, ap, ap₂, subst}
 use mathlib.Core.Logic.{_↔_, inl, inr}
 use mathlib.Core.Bool.{Bool, true, false, _&&_, _||_}
 use mathlib.Core.List.{List}
+use mathlib.Core.Option.{none}
 use native.Mathlib.Omega.{arith}
 use lib.Dec.{eqb, ltb}
+use lib.ListN.{length}
 use Rattle.logic.specs.Tests.{So, _⇒_, decide, so-and, and-l, and-r, or-l, or-r, or-cases, so-ltb, ltb-so, so-false, same-test}
-use Rattle.logic.specs.Bounded.{anyBelow, any-elim, any-intro}
+use Rattle.logic.specs.Bounded.{anyBelow, any-elim, any-intro, any-cong}
+use Rattle.logic.specs.Lists.{length-tabulate, at-tabulate}
 use Rattle.logic.specs.Sums.{only}
 use Rattle.logic.specs.Sets.{has}
 use Rattle.logic.specs.SetLaws.{no-member, has-lt, single↔, setOf↔, setOf-cong}
@@ -17,17 +20,24 @@ use Rattle.description.specs.Literals.{opposite, code}
 use Rattle.description.specs.Descriptions.{entryOfFields}
 use Rattle.tables.specs.Tables.{fieldsAt}
 use Rattle.tables.specs.Tables.{entryCount}
-use Rattle.refutation.specs.Cells.{Row}
+use Rattle.refutation.specs.Cells.{Row, rowAt, rowFrom}
 use Rattle.refutation.specs.RecordTests.{cellFits}
 use Rattle.roles.specs.Disjoint.{compatibleBy}
 use Rattle.list_form.specs.ListForm.{cellOf}
 use Rattle.cell_walk.specs.Walks.{rowGives, rolesIn}
 use Rattle.rows.specs.declared.Row as Held
 use Rattle.rows.specs.HeldRows.{given, heldAt, rowsHeld}
-use Rattle.list_cells.specs.CellSteps.{room, rowRole, roleOf, rowShows, everyShows, carriedAt, knownIn, answerWith, cellFine}
-use Rattle.list_cells.specs.CellLaws.{isEvery↔, any-held}
-use Rattle.list_cells.specs.CellRows.{maskAt, labelAt, Masks, Labels, aboveOf, bitOf, showsOwn, shownBy, deniedBy}
-use Rattle.list_cells.specs.CellRows.{gives, gatheredBy, gathered, gatheredOn}
+use Rattle.cell_labels.specs.CellShows.{room, everyShows, carriedAt}
+use Rattle.cell_labels.specs.CellLaws.{isEvery↔}
+use Rattle.cell_labels.specs.CellRows.{maskAt, labelAt, Masks, Labels, aboveOf, bitOf, showsOwn, shownBy, deniedBy, gives, gatheredBy}
+use Rattle.list_cells.specs.CellSteps.{rowRole, roleOf, rowShows, knownIn, answerWith, cellFine}
+use Rattle.list_cells.specs.CellAnswers.{gathered, gatheredOn}
+
+-- a test of some row that is held
+any-held : (rows : List Held.Row) (k : ℕ) (p : ℕ → Row → Bool)
+    → anyBelow k (λ i. p i (given (heldAt rows i))) ≡ anyBelow (length (rowsHeld rows k)) (λ i. p i (rowAt (rowsHeld rows k) i))
+any-held rows k p = any-cong k _ _ (λ i h. ap (p i) (sym (at-tabulate k (λ i. given (heldAt rows i)) (rowFrom none) i h)))
+    ∙ ap (λ n. anyBelow n (λ i. p i (rowAt (rowsHeld rows k) i))) (sym (length-tabulate k (λ i. given (heldAt rows i))))
 
 -- what is in a number or 0
 only-has : (b : Bool) (n l : ℕ) → So (has (only b n) l) → So b × So (has n l)

@@ -91,8 +91,7 @@ fn first_mark(marks: bool) -> u8
     if marks { 254 } else { 255 }
 }
 
-// Whether the cell byte `b` is a mark: of an open cell, or of a barred one where these have a mark. One comparison tells it, since the first
-// mark is the same for all cells.
+// Whether the cell byte `b` is a mark, of an open or a barred cell: all bytes from the first mark on are marks, so one comparison tells it.
 pub fn is_mark(b: u8, marks: bool) -> bool
     ensures { λ r. ⌜ r ≡ isMark marks b ⌝ }
 {

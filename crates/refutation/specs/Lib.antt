@@ -3,3 +3,4 @@ pub mod Records
 pub mod RecordTests
 pub mod Sound
 pub mod Examples
+pub mod BarredExamples

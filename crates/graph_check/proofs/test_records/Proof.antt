@@ -12,7 +12,7 @@ use Rattle.graph_check.proofs.test_records.Statement.{statement}
 use Rattle.graph_check.proofs.test_records.Tie as tie
 use Rattle.graph_check.proofs.test_records.Reads as reads
 use Rattle.graph_check.proofs.test_records.Lts as lts
-use Rattle.fillers.proofs.sources.Reads as sources-reads
+use Rattle.sources.proofs.sources.Reads as sources-reads
 use Rattle.graph_check.proofs.need_of.Reads as need-of-reads
 use Rattle.graph_check.proofs.test_record.Reads as test-record-reads
 use Rattle.labels.proofs.empty.Reads as empty-reads

@@ -4,7 +4,7 @@ use Rattle.list_cells.proofs.cell_answer.Statement.{statement}
 use Rattle.list_cells.proofs.cell_answer.Tie as tie
 use Rattle.list_cells.proofs.cell_answer.Reads as reads
 use Rattle.list_cells.proofs.cell_answer.Lts as lts
-use Rattle.list_cells.proofs.known_label.Reads as known-label-reads
+use Rattle.cell_labels.proofs.known_label.Reads as known-label-reads
 use Rattle.list_cells.proofs.may_have.Reads as may-have-reads
 
 may-have-requires : tie.Need-may-have-requires

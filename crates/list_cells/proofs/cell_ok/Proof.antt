@@ -2,7 +2,8 @@ use mathlib.Core.Path.{_∙_}
 use Rattle.logic.specs.Sets.{has}
 use Rattle.evidence.specs.Evidence.{labelOf}
 use Rattle.roles.specs.Disjoint.{compatibleBy}
-use Rattle.list_cells.specs.CellRows.{gatheredBy, by-mark, by-none, by-cite}
+use Rattle.cell_labels.specs.CellRows.{gatheredBy}
+use Rattle.list_cells.specs.CellAnswers.{by-mark, by-none, by-cite}
 use borrow.Author.Needs.{needs}
 use Rattle.list_cells.proofs.cell_ok.Statement.{statement}
 use Rattle.list_cells.proofs.cell_ok.Tie as tie

@@ -14,7 +14,7 @@ use Rattle.rows.specs.HeldRows.{rowsHeld}
 use Rattle.cell_walk.specs.Walks.{changesUpTo, Walked}
 use Rattle.cell_walk.specs.WalkLaws.{count-start, few-changes, all-next, tally-as, walk-start}
 use Rattle.list_cells.specs.CellSteps.{cellFine}
-use Rattle.list_cells.specs.CellRows.{gatheredOn, no-cell, cell-at}
+use Rattle.list_cells.specs.CellAnswers.{gatheredOn, no-cell, cell-at}
 use Rattle.list_cells.specs.CellGathered.{cell-told}
 use Rattle.list_cells.proofs.walk_cells.Statement.{statement}
 use Rattle.list_cells.proofs.walk_cells.Tie as tie
@@ -22,12 +22,12 @@ use Rattle.list_cells.proofs.walk_cells.Reads as reads
 use Rattle.list_cells.proofs.walk_cells.Lts as lts
 use Rattle.cell_walk.proofs.cell_roles.Reads as cell-roles-reads
 use Rattle.cell_walk.proofs.next_cell.Reads as next-cell-reads
-use Rattle.list_cells.proofs.above_of.Reads as above-of-reads
-use Rattle.list_cells.proofs.against_of.Reads as against-of-reads
+use Rattle.cell_labels.proofs.above_of.Reads as above-of-reads
+use Rattle.cell_labels.proofs.against_of.Reads as against-of-reads
 use Rattle.list_cells.proofs.cell_ok.Reads as cell-ok-reads
 use Rattle.list_cells.proofs.ended_at.Reads as ended-at-reads
-use Rattle.list_cells.proofs.own_of.Reads as own-of-reads
-use Rattle.list_cells.proofs.shown_of.Reads as shown-of-reads
+use Rattle.cell_labels.proofs.own_of.Reads as own-of-reads
+use Rattle.cell_labels.proofs.shown_of.Reads as shown-of-reads
 use Rattle.parts.proofs.byte.Reads as byte-reads
 use Rattle.parts.proofs.up_to.Reads as up-to-reads
 use Rattle.rows.proofs.cell_count.Reads as cell-count-reads
@@ -60,7 +60,7 @@ told : (c : tie.After-shown-of Inv-loop μ-loop) (m : ℕ) → let g = start c .
     (rowsHeld (g .rows) (upTo 6 (g .k))) (g .ds .now) (upTo 6 (g .k)) m
 told c m = let g = start c .args in let n = found c .before .up-to in let b = c .before .before .before .above-of in
     cell-told (g .m .now) (g .rows) (n .result) (n .ensures .1) _ (b .ensures .0) (g .cs .now) (valueOf (g .x)) _ _ _
-    (c .shown-of .ensures) (c .before .against-of .ensures) (c .before .before .own-of .ensures) (b .ensures .1)
+    (c .shown-of .ensures (b .ensures .0)) (c .before .against-of .ensures) (c .before .before .own-of .ensures) (b .ensures .1)
     (g .f .marks) (labelOf (g .f) (g .s .now)) (g .ds .now) _ (n .ensures .0) m
 
 -- the step to the next cell, from the loop's head

@@ -1,0 +1,3 @@
+pub mod CellShows
+pub mod CellLaws
+pub mod CellRows
