@@ -96,7 +96,7 @@ static inline unsigned shq_record(uint32_t answer) { return (unsigned)(answer & 
 #define SHQ_LINE_MOST 8705
 
 /* A description of more than 32 concept entries is wide: each label of its evidence takes 16 bytes in place of 8, and each name mask of its
- * lines 8 in place of 4. shq_entries gives the number of entries that a description's directory tells, 0 if it has no whole directory; it
+ * lines 8 in place of 4. shq_entries gives the number of entries that a description's directory tells, 0 if it has fewer than 12 bytes; it
  * means something for an accepted description alone. */
 #define SHQ_ENTRIES_MOST 64
 #define SHQ_NARROW_MOST 32

@@ -29,7 +29,7 @@ use Rattle.answers.specs.Answers as Case
 use Rattle.answers.specs.Answers.{Word, REFUSED, INHABITED, EMPTY, WRITTEN, answer, told↔, ofVerdict, case-when}
 use Rattle.verdict.specs.Verdict.{isList, evidenceTests, evidenceRefused, shown, verdict}
 
--- a word but REFUSED is told exactly if it is what such evidence shows and none of 1 to 20 refuses
+-- a word but REFUSED is told exactly if it is what such evidence shows and none of 1 to 20 and 26 refuses
 shown↔ : (d s : List ℕ) (w : Word) → (REFUSED ≡ w → ⊥)
     → (verdict d s ≡ answer w none) ↔ ((shown s ≡ w) × (AcceptedBytes d × (evidenceTests (described d) s ≡ none)))
 unfolding verdict

@@ -1,4 +1,4 @@
--- The pairs at the head of a description, the parts that they name, and test 1 (01, "The description"; 02, job 5; FORMAT 2).
+-- The pairs at the head of a description, the parts that they name, and test 1 (01, "The description"; 02, job 5; FORMAT 2, 3).
 use Prim.Native.Nat.{ℕ, _*_}
 use mathlib.Core.Path.{_≡_, refl}
 use mathlib.Core.Bool.{Bool, true, false, cond}

@@ -217,8 +217,8 @@ fn test_bytes(d: &[u8], t: [Role; 16]) -> Tested
     )
 }
 
-// A description that has been opened: what tests 1 to 8 and 26 say of it, what evidence asks of the records of its roles, and how many roles it
-// has. The records themselves stay here: they would be copied for each call of the checker.
+// A description that has been opened: what tests 1 to 8 and 26 say, the masks that evidence asks of its roles and records, the number of
+// roles. The records of the roles stay here: they would be copied for each call of the checker.
 pub struct Opening {
     pub tested: Tested,
     pub masks: [u16; 49],

@@ -27,7 +27,7 @@ use Rattle.list_cells.specs.CellSteps.{answerWith}
 use Rattle.list_cells.specs.declared.CellAnswer.{CellAnswer}
 use Rattle.list_cells.specs.declared.CellAnswer.the-variants.{Barred, Knows}
 
--- the same where the rows of the cell tell its roles by `above`
+-- what is gathered of a cell (`gatheredBy` of cell_labels) where its rows tell its roles by `above`
 abbrev pub gathered : List ℕ → List ℕ → List Label → List ℕ → ℕ → ℕ
 gathered above own shown against c = gatheredBy (rolesIn above c) own shown against c
 

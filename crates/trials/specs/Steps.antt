@@ -1,4 +1,4 @@
--- Steps 3, 4 and 5 (01, "Evidence", Closing list) byte by byte, on both sides.
+-- Steps 1, 3, 4 and 5 (01, "Evidence", Closing list) byte by byte; 3 to 5 on both sides.
 use Prim.Native.Nat.{ℕ}
 use mathlib.Core.Path.{_≡_, refl}
 use mathlib.Core.List.{List, [], _∷_, map}
