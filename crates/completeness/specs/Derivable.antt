@@ -45,43 +45,43 @@ module _ (D : Description) (num num' : ℕ → ℕ) (i : ℕ) (L : Label) (same 
   moved j M h w = rw (same j h) w
 
   move : (s : Step) → RecordOk D num i L s → RecordOk D num' i L s
-  move (contradiction l) o = record { in-table = o.in_table_lem; cite-ok = o.cite-ok; step_ok = o.step_ok; cell-ok = tt; tree-ok = tt }
-  move (conjunction e c) o = let w = o.step_ok.1 in record {
-    in-table = o.in_table_lem;
-    cite-ok = o.cite-ok;
-    step_ok = (o.step_ok.0, (w.0, w.1, w.2, moved c (plus (plus L w.0) w.1) o.cite-ok.1 w.3));
-    cell-ok = tt;
-    tree-ok = tt;
+  move (contradiction l) o = record { inside_table = o.inside_table; cite_ok = o.cite_ok; step_holds = o.step_holds; cell_ok = tt; tree_ok = tt }
+  move (conjunction e c) o = let w = o.step_holds.1 in record {
+    inside_table = o.inside_table;
+    cite_ok = o.cite_ok;
+    step_holds = (o.step_holds.0, (w.0, w.1, w.2, moved c (plus (plus L w.0) w.1) o.cite_ok.1 w.3));
+    cell_ok = tt;
+    tree_ok = tt;
   }
-  move (disjunction e c d) o = let w = o.step_ok.1 in record {
-    in-table = o.in_table_lem;
-    cite-ok = o.cite-ok;
-    step_ok = (
-      o.step_ok.0,
+  move (disjunction e c d) o = let w = o.step_holds.1 in record {
+    inside_table = o.inside_table;
+    cite_ok = o.cite_ok;
+    step_holds = (
+      o.step_holds.0,
       (
         w.0,
         w.1,
         w.2,
-        (moved c (plus L (opposite w.0)) o.cite-ok.1.0 w.3.0, moved d (plus L (opposite w.1)) o.cite-ok.1.1 w.3.1),
+        (moved c (plus L (opposite w.0)) o.cite_ok.1.0 w.3.0, moved d (plus L (opposite w.1)) o.cite_ok.1.1 w.3.1),
       ),
     );
-    cell-ok = tt;
-    tree-ok = tt;
+    cell_ok = tt;
+    tree_ok = tt;
   }
-  move (by_rule q c) o = record { in-table = o.in_table_lem; cite-ok = o.cite-ok; step_ok = moved c (plus L (D.rule q)) o.cite-ok.1 o.step_ok; cell-ok = tt; tree-ok = tt }
+  move (by_rule q c) o = record { inside_table = o.inside_table; cite_ok = o.cite_ok; step_holds = moved c (plus L (D.rule q)) o.cite_ok.1 o.step_holds; cell_ok = tt; tree_ok = tt }
   move (case_split e c d) o = record {
-    in-table = o.in_table_lem;
-    cite-ok = o.cite-ok;
-    step_ok = (moved c (plus L (pos e)) o.cite-ok.1.0 o.step_ok.0, moved d (plus L (neg e)) o.cite-ok.1.1 o.step_ok.1);
-    cell-ok = tt;
-    tree-ok = tt;
+    inside_table = o.inside_table;
+    cite_ok = o.cite_ok;
+    step_holds = (moved c (plus L (pos e)) o.cite_ok.1.0 o.step_holds.0, moved d (plus L (neg e)) o.cite_ok.1.1 o.step_holds.1);
+    cell_ok = tt;
+    tree_ok = tt;
   }
   move (counting K) o = record {
-    in-table = o.in_table_lem;
-    cite-ok = o.cite-ok;
-    step_ok = o.step_ok;
-    cell-ok = λ c h p. fits c (cell_at K.cells c) (λ j q. o.cite-ok.1 c h p j q) (o.cell-ok c h p);
-    tree-ok = o.tree-ok;
+    inside_table = o.inside_table;
+    cite_ok = o.cite_ok;
+    step_holds = o.step_holds;
+    cell_ok = λ c h p. fits c (cell_at K.cells c) (λ j q. o.cite_ok.1 c h p j q) (o.cell_ok c h p);
+    tree_ok = o.tree_ok;
   }
     where
       fits : (c : ℕ) (x : Cell) → ((j : ℕ) → x ≡ cited j → j < i) → CellFits D num i L (rows_of D K.rows) c x → CellFits D num' i L (rows_of D K.rows) c x
@@ -160,20 +160,20 @@ module _ (D : Description) (L : Label) (t : InTable D.entries L) where
 
   pub by_contradiction : (l : Literal) → So (L l) → So (L (opposite l)) → Derivable D L
   by_contradiction l p q C v = finish C (contradiction l) C v (extends_refl C) tt
-      (record { in-table = t; cite-ok = t l p; step_ok = (or_l _ _ p, or_l _ _ q); cell-ok = tt; tree-ok = tt })
+      (record { inside_table = t; cite_ok = t l p; step_holds = (or_l _ _ p, or_l _ _ q); cell_ok = tt; tree_ok = tt })
 
   -- literal 1: literal 0 counts as in L
   pub by_bottom : So (L (neg 0)) → Derivable D L
   by_bottom p C v = finish C (contradiction (neg 0)) C v (extends_refl C) tt
-      (record { in-table = t; cite-ok = t (neg 0) p; step_ok = (or_l _ _ p, or_r (L (pos 0)) _ (literal_same (pos 0))); cell-ok = tt; tree-ok = tt })
+      (record { inside_table = t; cite_ok = t (neg 0) p; step_holds = (or_l _ _ p, or_r (L (pos 0)) _ (literal_same (pos 0))); cell_ok = tt; tree_ok = tt })
 
   pub by_conjunction : (e : ℕ) (a b : Literal) → D.entry e ≡ both a b → So (L (pos e)) → Derivable D (plus (plus L a) b) → Derivable D L
   by_conjunction e a b q p d C v = let r = d C v in finish C (conjunction e r.at) r.list r.valid r.extends tt
-      (record { in-table = t; cite-ok = (t (pos e) p, r.at_in); step_ok = (p, (a, b, q, r.lies)); cell-ok = tt; tree-ok = tt })
+      (record { inside_table = t; cite_ok = (t (pos e) p, r.at_in); step_holds = (p, (a, b, q, r.lies)); cell_ok = tt; tree_ok = tt })
 
   pub by_rule_lem : (i : ℕ) → i < D.rules → Derivable D (plus L (D.rule i)) → Derivable D L
   by_rule_lem i h d C v = let r = d C v in finish C (by_rule i r.at) r.list r.valid r.extends tt
-      (record { in-table = t; cite-ok = (h, r.at_in); step_ok = r.lies; cell-ok = tt; tree-ok = tt })
+      (record { inside_table = t; cite_ok = (h, r.at_in); step_holds = r.lies; cell_ok = tt; tree_ok = tt })
 
   -- two cites: the second list extends the first
   record Two (C : Refutation) (M N : Label) : Type 0 where
@@ -203,17 +203,17 @@ module _ (D : Description) (L : Label) (t : InTable D.entries L) where
   pub by_disjunction : (e : ℕ) (a b : Literal) → D.entry e ≡ both a b → So (L (neg e)) → Derivable D (plus L (opposite a)) → Derivable D (plus L (opposite b)) → Derivable D L
   by_disjunction e a b q p c d C v = let r = two C v (plus L (opposite a)) (plus L (opposite b)) c d in
       finish C (disjunction e r.first r.second) r.list r.valid r.extends tt (record {
-        in-table = t;
-        cite-ok = (t (neg e) p, (r.first-in, r.second-in));
-        step_ok = (p, (a, b, q, (r.first-lies, r.second-lies)));
-        cell-ok = tt;
-        tree-ok = tt;
+        inside_table = t;
+        cite_ok = (t (neg e) p, (r.first_in, r.second_in));
+        step_holds = (p, (a, b, q, (r.first_lies, r.second_lies)));
+        cell_ok = tt;
+        tree_ok = tt;
       })
 
   pub by_cases : (e : ℕ) → e < D.entries → Derivable D (plus L (pos e)) → Derivable D (plus L (neg e)) → Derivable D L
   by_cases e h c d C v = let r = two C v (plus L (pos e)) (plus L (neg e)) c d in
       finish C (case_split e r.first r.second) r.list r.valid r.extends tt
-      (record { in-table = t; cite-ok = (h, (r.first-in, r.second-in)); step_ok = (r.first-lies, r.second-lies); cell-ok = tt; tree-ok = tt })
+      (record { inside_table = t; cite_ok = (h, (r.first_in, r.second_in)); step_holds = (r.first_lies, r.second_lies); cell_ok = tt; tree_ok = tt })
 
   -- counting: cells are open, or barred, or one cite each shows them empty; a cell is free if its roles are those of one pair, and open cells are.
   -- Cell i + 1 is number i of the list
@@ -290,11 +290,11 @@ module _ (D : Description) (L : Label) (t : InTable D.entries L) where
       by_counting lits compatible shown some inside rising d tree f closed C v = finish C (counting K) S.list S.valid S.extends
           (some, (omega (arith, S.long, pow_pos (length lits)), f))
           (record {
-            in-table = t;
-            cite-ok = (λ l m. t l (inside l m).0, λ c h p j q. (subst (Shows S.list c) q (at c h p)).1);
-            step_ok = (inside, rising);
-            cell-ok = λ c h p. fits c (cell_at S.cells c) (at c h p);
-            tree-ok = tree_open (2 ^ length (bounds (rows_of D lits))) open? (open_at S.cells)
+            inside_table = t;
+            cite_ok = (λ l m. t l (inside l m).0, λ c h p j q. (subst (Shows S.list c) q (at c h p)).1);
+            step_holds = (inside, rising);
+            cell_ok = λ c h p. fits c (cell_at S.cells c) (at c h p);
+            tree_ok = tree_open (2 ^ length (bounds (rows_of D lits))) open? (open_at S.cells)
                 (λ c h p. opened c (rw (length_bounds (rows_of D lits), length_rows D lits) at h) p) (limits (bounds (rows_of D lits))) tree closed;
           })
         where

@@ -32,17 +32,17 @@ use Rattle.completeness.specs.Elimination.{type, Dropped, Supported, AllSupporte
 want : (D : Description) (size : ℕ) (lab : ℕ → Label) (W : List Literal) (L : Label) (es : List Edge) → ((l : Literal) → l ∈ W → So (L l))
     → NodeOk D size lab [] L es → NodeOk D size lab W L es
 want D size lab W L es h o = record {
-  label-ok = record {
-    in-table = o.label_ok.in_table_lem;
-    has-top = o.label_ok.has_top;
-    has-rules = o.label_ok.has_rules;
+  label_ok = record {
+    inside_table = o.label_ok.inside_table;
+    has_top = o.label_ok.has_top;
+    has_rules = o.label_ok.has_rules;
     consistent = o.label_ok.consistent;
-    has-wanted = h;
+    has_wanted = h;
   };
   both_ok = o.both_ok;
-  edges-ok = o.edges_ok;
-  every-ok = o.every_ok;
-  count-ok = o.count_ok;
+  edges_ok = o.edges_ok;
+  every_ok = o.every_ok;
+  count_ok = o.count_ok;
 }
 
 module _ (D : Description) (A : Accepted D) (W : List Literal) where
@@ -102,7 +102,7 @@ module _ (D : Description) (A : Accepted D) (W : List Literal) where
 
     types_keep : Keeps D W types
     types_keep = record {
-      some-node = omega (arith, size_is, one-le-pow n 2 (omega arith));
+      some_node = omega (arith, size_is, one-le-pow n 2 (omega arith));
       nodes = λ x h. wanted_of x (rw size_is at h);
     }
       where
@@ -127,7 +127,7 @@ module _ (D : Description) (A : Accepted D) (W : List Literal) where
   close r = (
     take m r.list,
     record {
-      some-record = omega (arith, long);
+      some_record = omega (arith, long);
       valid = valid;
       end = λ l u. inr ((wanted↔ l).0 (r.lies l (subst (λ N. So (members N l)) last u)));
     },

@@ -19,7 +19,7 @@ use Rattle.description.specs.Descriptions.{Entry, top, name, both, every, at_lea
 use Rattle.description.specs.Acceptance.{Accepted, fields_at_lem}
 use Rattle.graph.specs.Graphs.{Edge, LabelOk, NodeOk}
 use Rattle.graph.specs.GraphTests.{both_test, both↔}
-use Rattle.refutation.specs.Cells.{Row, row_of, is_row, row_from, rows_of, row_at, bounds, RowIn, cell_role, known, known↔, rows_in_lem, known_in_lem, length_rows, length_bounds, bound_at_lem, row_at_lem}
+use Rattle.refutation.specs.Cells.{Row, row_of, is_row, row_from, rows_of, row_at, bounds, RowIn, cell_role, known, known↔, rows_inside, known_in_lem, length_rows, length_bounds, bound_at_lem, row_at_lem}
 use Rattle.completeness.specs.Derivable.{Derivable, derivable_mono, by_contradiction, by_bottom, by_conjunction, by_disjunction, by_rule_lem, by_counting}
 use Rattle.completeness.specs.Types.{chosen, typ, pos_in, neg_in, pos_out, typ_in, typ_full, typ_one, typ_cong, chosen_in, lies, lies↔, resolve}
 use Rattle.completeness.specs.TypeRows.{TypeRows, rows_of_type, at_places}
@@ -123,7 +123,7 @@ module _ (D : Description) (A : Accepted D) where
     lits_rows = at_places (λ l. So (is_row (row_of D l))) T.lits T.are_rows
 
     rows_ok : (i : ℕ) → i < length rows → RowIn D (row_at rows i)
-    rows_ok = rows_in_lem D A T.lits lits_in lits_rows
+    rows_ok = rows_inside D A T.lits lits_in lits_rows
 
     abbrev shown : ℕ → Label
     shown m = known D (type c) rows m
@@ -196,15 +196,15 @@ module _ (D : Description) (A : Accepted D) where
       | inr u ↦ inr (by_bottom D (type c) (typ_in n p) (neg_in n p 0 A.some_entry (so_not _ u)))
       | inl u ↦ elim (decide (all_below D.rules (λ i. type c (D.rule i)))) [
         | inr v ↦ inr (let w = all_not D.rules (λ i. type c (D.rule i)) v in
-            by_rule_lem D (type c) (typ_in n p) w.0 w.1 (clash_with p (D.rule w.0) (A.rules_in_lem w.0 w.1) (not_so _ w.2)))
+            by_rule_lem D (type c) (typ_in n p) w.0 w.1 (clash_with p (D.rule w.0) (A.rules_inside w.0 w.1) (not_so _ w.2)))
         | inl v ↦ elim (decide (both_test D (type c))) [
           | inr b ↦ inr (let w = all_not n _ b in broken p w.0 (D.entry w.0) w.1 refl w.2)
           | inl b ↦ by_rows (record {
-            in-table = typ_in n p;
-            has-top = pos_in n p 0 A.some_entry u;
-            has-rules = all_elim D.rules (λ i. type c (D.rule i)) v;
+            inside_table = typ_in n p;
+            has_top = pos_in n p 0 A.some_entry u;
+            has_rules = all_elim D.rules (λ i. type c (D.rule i)) v;
             consistent = λ e _. typ_one n p (pos e);
-            has-wanted = λ l m. elim m [ ];
+            has_wanted = λ l m. elim m [ ];
           }) b
         ]
       ]

@@ -53,9 +53,9 @@ module _ (D : Description) (A : Accepted D) (p : ℕ → Bool) (size : ℕ) (lab
   es = edges_below edge cells
 
   -- ---- a cell's roles
-  roles_in_lem : (c r : ℕ) → So (roles c r) → r < D.roles
+  roles_inside : (c r : ℕ) → So (roles c r) → r < D.roles
   unfolding cell_role
-  roles_in_lem c r u = let w = any_elim (length rows) _ u in
+  roles_inside c r u = let w = any_elim (length rows) _ u in
       anc_in D A.parents_in (row_at rows w.0).role r (row_in w.0 w.1).0 (and_r (has c w.0) _ w.2)
 
   roles_up : (c r s : ℕ) → So (roles c r) → So (ancestor D r s) → So (roles c s)
@@ -69,7 +69,7 @@ module _ (D : Description) (A : Accepted D) (p : ℕ → Bool) (size : ℕ) (lab
   roles_own c i h b = any_intro (length rows) (λ j. has c j && ancestor D (row_at rows j).role (row_at rows i).role) i h (so_and _ _ b (anc_refl D (row_at rows i).role))
 
   mask↔ : (c r : ℕ) → So (of_role r (edge c)) ↔ So (roles c r)
-  mask↔ c r = (λ u. ((set_of↔ D.roles (roles c) r).0 u).1, λ u. (set_of↔ D.roles (roles c) r).1 (roles_in_lem c r u, u))
+  mask↔ c r = (λ u. ((set_of↔ D.roles (roles c) r).0 u).1, λ u. (set_of↔ D.roles (roles c) r).1 (roles_inside c r u, u))
 
   -- an edge is that of an open cell with fillers
   of_cell : (P : Edge → Type 0) → ((c : ℕ) → c < cells → So (live open? c) → 1 ≤ x c → P (edge c)) → (E : Edge) → E ∈ es → P E
@@ -108,18 +108,18 @@ module _ (D : Description) (A : Accepted D) (p : ℕ → Bool) (size : ℕ) (lab
       → ((e : ℕ) → e < n → So (is_row (row_of D (chosen p e))) → (i : ℕ) × (i < length rows) × (row_at rows i ≡ row_from (row_of D (chosen p e))))
       → NodeOk D size target W L es
   solved_node W lok bok there = record {
-    label-ok = lok;
+    label_ok = lok;
     both_ok = bok;
-    edges-ok = of_cell (EdgeOk D size) (λ c h o g. record {
-      target-in = pick-in c h o;
-      some-role = let w = some_member c (so_ltb 0 c (and_l (ltb 0 c) (open? c) o)) in
+    edges_ok = of_cell (EdgeOk D size) (λ c h o g. record {
+      target_in = pick-in c h o;
+      some_role = let w = some_member c (so_ltb 0 c (and_l (ltb 0 c) (open? c) o)) in
           let i = has_lt (length rows) c w.0 h w.1 in ((row_at rows w.0).role, (mask↔ c (row_at rows w.0).role).1 (roles_own c w.0 i w.1));
-      roles_in_lem = λ r u. roles_in_lem c r ((mask↔ c r).0 u);
+      roles_inside = λ r u. roles_inside c r ((mask↔ c r).0 u);
       roles_up = λ r _ u s _ a. (mask↔ c s).1 (roles_up c r s ((mask↔ c r).0 u) a);
-      roles-compatible = λ i hi u v. free c o i hi ((mask↔ c (D.disjoint i).one).0 u) ((mask↔ c (D.disjoint i).other).0 v);
-      some-copy = omega (arith, only_on (live open? c) (x c) o);
+      roles_compatible = λ i hi u v. free c o i hi ((mask↔ c (D.disjoint i).one).0 u) ((mask↔ c (D.disjoint i).other).0 v);
+      some_copy = omega (arith, only_on (live open? c) (x c) o);
     });
-    every-ok = λ e he r l q. (
+    every_ok = λ e he r l q. (
       λ u. of_cell (λ E. So (of_role r E) → _) (λ c h o g k. (
         pick-has c h o l (passed e r l he u q ((mask↔ c r).0 k)),
         λ t ht tr kt a f hf qf. pick-has c h o (pos f) (onward e r l t f he u q ht tr ((mask↔ c t).0 kt) a hf qf),
@@ -128,7 +128,7 @@ module _ (D : Description) (A : Accepted D) (p : ℕ → Bool) (size : ℕ) (lab
           (met e _ he (negative e u ∙ ap negative_row q)) in
           (w.0, w.1, (and_l _ _ w.2, and_r (of_role r w.0) _ w.2)),
     );
-    count-ok = λ e he r l k q. let f = fields_at_lem D A e (at_least r l k) he q in (
+    count_ok = λ e he r l k q. let f = fields_at_lem D A e (at_least r l k) he q in (
       λ u. met e _ he (positive e u ∙ ap positive_row q),
       λ u. (
         omega (arith, met e _ he (negative e u ∙ ap negative_row q), f.1.0),

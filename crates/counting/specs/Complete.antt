@@ -49,7 +49,7 @@ module _ (n : ℕ) (open? : ℕ → Bool) where
 
     -- the limits on the way to a node: the rows are among them, and each open cell from j on is pinned at its size
     record Way (ls : List Limit) (j : ℕ) : Type 0 where
-      rows_in_lem : {l : Limit} → l ∈ rows → l ∈ ls
+      rows_inside : {l : Limit} → l ∈ rows → l ∈ ls
       size : (c : ℕ) → (v : ℕ) × (j ≤ c → c < n → So (live open? c) → Pinned ls v c)
 
     at_leaf : (ls : List Limit) → Way ls 0 → Answer ls
@@ -59,9 +59,9 @@ module _ (n : ℕ) (open? : ℕ → Bool) where
         x c = (w.size c).0
 
         close : (l : Limit) → l ∈ rows → (Holds n open? x l → ⊥) → ClosingTree n open? ls
-        close (limit upper b k) p h = broken_closes n open? ls upper b k x (w.rows_in p) h (λ c l o q. ((w.size c).1 (omega arith) l o).0)
+        close (limit upper b k) p h = broken_closes n open? ls upper b k x (w.rows_inside p) h (λ c l o q. ((w.size c).1 (omega arith) l o).0)
         -- a cell of size B or more alone would keep a lower limit
-        close (limit lower b k) p h = broken_closes n open? ls lower b k x (w.rows_in p) h (λ c l o q. elim ((w.size c).1 (omega arith) l o).1 [
+        close (limit lower b k) p h = broken_closes n open? ls lower b k x (w.rows_inside p) h (λ c l o q. elim ((w.size c).1 (omega arith) l o).1 [
           | inl u ↦ u
           | inr u ↦ absurd (omega (
             arith,
@@ -74,7 +74,7 @@ module _ (n : ℕ) (open? : ℕ → Bool) where
     -- ---- on the way down
     way_more : (ls : List Limit) (j : ℕ) (y : Limit) → Way ls j → Way (ls ++ (y ∷ [])) j
     way_more ls j y w = record {
-      rows_in_lem = λ p. Memᴰ.append_left _ (w.rows_in p);
+      rows_inside = λ p. Memᴰ.append_left _ (w.rows_inside p);
       size = λ c. let (v, pins) = w.size c in
           (v, λ h l o. let (p, q) = pins h l o in (⊎_map (λ z. z) (Memᴰ.append_left _) p, ⊎_map (Memᴰ.append_left _) (λ z. z) q));
     }
@@ -82,7 +82,7 @@ module _ (n : ℕ) (open? : ℕ → Bool) where
     -- one cell more, of size v
     way_down : (ls : List Limit) (j v : ℕ) → (So (live open? j) → Pinned ls v j) → Way ls (suc j) → Way ls j
     way_down ls j v p w = record {
-      rows_in_lem = w.rows_in;
+      rows_inside = w.rows_inside;
       size = λ c. elim (dec_lt j c) [
         | yes d ↦ ((w.size c).0, λ _. (w.size c).1 d)
         | no d ↦ (v, λ h l o. let e : c ≡ j = omega arith in rw e (p (rw e at o)))
@@ -119,4 +119,4 @@ module _ (n : ℕ) (open? : ℕ → Bool) where
     ]
 
   pub tree_complete : (ls : List Limit) → ((x : ℕ → ℕ) × HoldAll n open? ls x) ⊎ ((t : Tree) × So (formed (length ls) t) × TreeCloses n open? ls t)
-  tree_complete ls = build ls n (omega arith) ls (record { rows_in_lem = λ p. p; size = λ c. (0, λ h l. absurd (omega arith)) })
+  tree_complete ls = build ls n (omega arith) ls (record { rows_inside = λ p. p; size = λ c. (0, λ h l. absurd (omega arith)) })

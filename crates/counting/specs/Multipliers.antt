@@ -153,8 +153,8 @@ module _ (n : ℕ) (open? : ℕ → Bool) (ls : List Limit) where
     long = plus_long (length ls) p.ms q.ms p.long q.long;
     weighs = λ c l o. rw (tally_plus _ (share_add s c) ls p.ms q.ms) (meets_add (other s) _ _ _ _ (p.weighs c l o) (q.weighs c l o));
     worths = rw (tally_plus _ (price_add s) ls p.ms q.ms, p.worths, q.worths);
-    no_weight = λ c. rw (tally_plus _ (share_add (other s) c) ls p.ms q.ms, p.no-weight c, q.no-weight c);
-    no_worth = rw (tally_plus _ (price_add (other s)) ls p.ms q.ms, p.no-worth, q.no-worth);
+    no_weight = λ c. rw (tally_plus _ (share_add (other s) c) ls p.ms q.ms, p.no_weight c, q.no_weight c);
+    no_worth = rw (tally_plus _ (price_add (other s)) ls p.ms q.ms, p.no_worth, q.no_worth);
   }
 
   -- other weights that are as good in the open cells
@@ -165,8 +165,8 @@ module _ (n : ℕ) (open? : ℕ → Bool) (ls : List Limit) where
     long = p.long;
     weighs = λ c l o. meets_trans (other s) _ _ _ (h c l o) (p.weighs c l o);
     worths = p.worths;
-    no_weight = p.no-weight;
-    no_worth = p.no-worth;
+    no_weight = p.no_weight;
+    no_worth = p.no_worth;
   }
 
   many : (s : Side) (w : ℕ → ℕ → ℕ) (b : ℕ → ℕ) (j : ℕ) → ((i : ℕ) → i < j → Combination s (w i) (b i))
@@ -186,9 +186,9 @@ module _ (n : ℕ) (open? : ℕ → Bool) (ls : List Limit) where
         arith,
         tally_plus _ (share_add lower c) ls p.ms q.ms,
         tally_plus _ (share_add upper c) ls p.ms q.ms,
-        p.no-weight c,
+        p.no_weight c,
         p.weighs c l o,
-        q.no-weight c,
+        q.no_weight c,
         q.weighs c l o,
       ));
       above_zero = (gap↔ ls ms).1 (rw (worth_tally lower ls ms, worth_tally upper ls ms) (omega (

@@ -1,7 +1,7 @@
 -- Laws of trees: the tests are the statements, a tree that closes leaves no sizes, and only the open cells below n matter.
 use Rattle.std.specs.Prelude.{ℕ, ◌+◌, ◌-◌, ◌*◌, ◌≤◌, ◌<◌, ◌≡◌, refl, ◌↔◌, Bool, true, false, ◌&&◌, List, [], ◌∷◌, ◌++◌, eqb, ltb, pos}
 use Rattle.std.proofs.Common.{sym, ◌∙◌, subst, inl, inr, arith, mul-le-mul_left}
-use Rattle.std.proofs.Math.Logic.{Iff·rfl}
+use Rattle.std.proofs.Math.Logic.Iff
 use Rattle.std.proofs.lemmas.Bool.{false≢true}
 use Rattle.std.proofs.Math.Decide.{dec_le}
 use Rattle.std.proofs.Math.IntN.{sub_ℕ}
@@ -39,7 +39,7 @@ meets_add upper a b c d h k = omega arith
 module _ (n : ℕ) (open? : ℕ → Bool) where
   -- ---- the tests are the statements
   pub live↔ : (c : ℕ) → So (live open? c) ↔ ((0 < c) × So (open? c))
-  live↔ c = simp reading Iff·rfl
+  live↔ c = simp reading Iff.rfl
 
   pub leaf↔ : (ls : List Limit) (ms : List ℕ) → So (leaf_test n open? ls ms) ↔ LeafCloses n open? ls ms
   unfolding leaf_test
@@ -47,7 +47,7 @@ module _ (n : ℕ) (open? : ℕ → Bool) where
     where
       both : So (leaf_test n open? ls ms)
           ↔ (((c : ℕ) → c < n → So (live open? c) → weight lower ls ms c ≤ weight upper ls ms c) × So (lt_z (pos 0) (gap ls ms)))
-      both = simp below Iff·rfl
+      both = simp below Iff.rfl
 
   pub tree↔ : (fits : ℕ → Bool) (ls : List Limit) (t : Tree) → So (tree_test n open? fits ls t) ↔ (TreeCloses n open? ls t × ValuesFit fits t)
   unfolding tree_test
@@ -61,7 +61,7 @@ module _ (n : ℕ) (open? : ℕ → Bool) where
       )
     where
       parts : (a b f p q : Bool) → So ((a && (b && f)) && (p && q)) ↔ ((So a × (So b × So f)) × (So p × So q))
-      parts a b f p q = simp and↔ Iff·rfl
+      parts a b f p q = simp and↔ Iff.rfl
 
   -- ---- soundness
   -- the sizes of the open cells, each times its weight, added up
@@ -141,6 +141,6 @@ module _ (n : ℕ) (open? : ℕ → Bool) where
   tree_open open' e ls (split c v l r) h = (
     h.0,
     rw (e c h.0 (so_ltb 0 c (and_l (ltb 0 c) (open? c) h.1))) h.1,
-    tree_open open' e _ l h.2,
-    tree_open open' e _ r h.3,
+    tree_open open' e (ls ++ at_most c v ∷ []) l h.2,
+    tree_open open' e (ls ++ more_than c v ∷ []) r h.3,
   )

@@ -129,7 +129,7 @@ module _ (x : List ℕ) (c d : ℕ) (s t : List ℕ) where
     λ q. let u = told HOLDS refl q in let v = (first↔ _ _).0 u.1.1.1 in
         (u.0, (u.1.0, ((list_kept↔ D u.0.accepted (counterexample c d) s).0 v.0, (kept↔ D (subject c) t).0 v.1))),
     λ k. let l = k.1.1.0 in let g = k.1.1.1 in (shown↔ HOLDS refl).1 (
-        rw (list_head_lem s l.head l.is_list_lem, ne_eqb (length t) 0 (some_bytes t g.is_graph), graph_head_lem t g.head g.is_graph)
+        rw (list_head_lem s l.head l.is_a_list, ne_eqb (length t) 0 (some_bytes t g.is_graph), graph_head_lem t g.head g.is_graph)
         (refl, (k.0, (k.1.0, (refl, (first↔ _ _).1 ((list_kept↔ D k.0.accepted (counterexample c d) s).1 l, (kept↔ D (subject c) t).1 g)))))),
   )
 
@@ -148,7 +148,7 @@ module _ (x : List ℕ) (c d : ℕ) (s t : List ℕ) where
   nothing↔ = let D = described x in (
     λ q. let u = told HOLDS_OF_NOTHING refl q in
         (u.0, (u.1.0, ((list_kept↔ D u.0.accepted (subject c) s).0 u.1.1.1, none_second (head_of s) t (ap single u.1.1.0)))),
-    λ k. let l = k.1.1.0 in (shown↔ HOLDS_OF_NOTHING refl).1 (rw (list_head_lem s l.head l.is_list_lem, k.1.1.1)
+    λ k. let l = k.1.1.0 in (shown↔ HOLDS_OF_NOTHING refl).1 (rw (list_head_lem s l.head l.is_a_list, k.1.1.1)
         (refl, (k.0, (k.1.0, (refl, (list_kept↔ D k.0.accepted (subject c) s).1 l))))),
   )
 

@@ -62,7 +62,7 @@ inhabited↔ d s = let w = shown↔ d s INHABITED (λ e. let z : ◌≡◌ {A = 
 pub empty↔ : (d s : List ℕ) → (verdict d s ≡ answer EMPTY none) ↔ (AcceptedBytes d × ListKept (described d) (wanted (described d)) s)
 empty↔ d s = let w = shown↔ d s EMPTY (λ e. let z : ◌≡◌ {A = ℕ} 0 1 = cc in omega arith) in (
   λ e. let t = w.0 e in (t.1.0, (list_kept↔ D t.1.0.accepted (wanted D) s).0 (rw (shows_list s t.0) at t.1.1)),
-  λ k. w.1 (rw k.1.is_list_lem (refl, (k.0, (list_kept↔ D k.0.accepted (wanted D) s).1 k.1))),
+  λ k. w.1 (rw k.1.is_a_list (refl, (k.0, (list_kept↔ D k.0.accepted (wanted D) s).1 k.1))),
 )
   where
     D : Description

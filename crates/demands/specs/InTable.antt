@@ -19,7 +19,7 @@ use Rattle.demands.specs.Lifted.{Evidence, sample, refutation, KeepsRules}
 
 -- a node of a graph of that size: a set of the table's literals, and edges along the table's roles to nodes of the graph
 pub record NodeInTable (D : Description) (size : ℕ) (N : Node) : Type 0 where
-  pub label_in_lem : N.label < 2 ^ (2 * D.entries)
+  pub label_inside : N.label < 2 ^ (2 * D.entries)
   pub masks_in : (E : Edge) → E ∈ N.edges → E.mask < 2 ^ D.roles
   pub targets_in : (E : Edge) → E ∈ N.edges → E.target < size
 
@@ -33,8 +33,8 @@ StepInTable D i (case_split e c d) = (e < D.entries) × (c < i) × (d < i)
 StepInTable D i (counting K) = ((l : Literal) → l ∈ K.rows → code l < 2 * D.entries) × ((j : ℕ) → cited j ∈ K.cells → j < i)
 
 pub record RecordInTable (D : Description) (i : ℕ) (R : Record) : Type 0 where
-  pub label_in_lem : R.label < 2 ^ (2 * D.entries)
-  pub step_in_lem : StepInTable D i R.step
+  pub label_inside : R.label < 2 ^ (2 * D.entries)
+  pub step_inside : StepInTable D i R.step
 
 abbrev pub EvidenceInTable : Description → Evidence → Type 0
 EvidenceInTable D (sample G) = (x : ℕ) → x < length G → NodeInTable D (length G) (node_at G x)
@@ -62,13 +62,13 @@ module _ (D : Description) (num : ℕ → ℕ) (i : ℕ) (L : Label) where
 -- for any description
 pub keeps_in_table : (D : Description) (E : Evidence) → KeepsRules D E → EvidenceInTable D E
 keeps_in_table D (sample G) k = λ x l. let n = k.nodes x l in record {
-  label_in_lem = label_below (node_at G x).label D.entries n.label_ok.in_table_lem;
-  masks_in = λ E m. lt_has D.roles E.mask (n.edges_ok E m).roles_in_lem;
+  label_inside = label_below (node_at G x).label D.entries n.label_ok.inside_table;
+  masks_in = λ E m. lt_has D.roles E.mask (n.edges_ok E m).roles_inside;
   targets_in = λ E m. (n.edges_ok E m).target_in;
 }
 keeps_in_table D (refutation C) k = λ i l. let r = k.valid.records i l in record {
-  label_in_lem = label_below (number_at C i) D.entries r.in_table_lem;
-  step_in_lem = step_in_table D (number_at C) i (members (number_at C i)) (record_at C i).step (k.valid.forms i l) r.cite-ok;
+  label_inside = label_below (number_at C i) D.entries r.inside_table;
+  step_inside = step_in_table D (number_at C) i (members (number_at C i)) (record_at C i).step (k.valid.forms i l) r.cite_ok;
 }
 
 -- labels that have room in the bytes of one, and masks that have room in 2
@@ -90,5 +90,5 @@ keeps_fitting d a E k = go E (keeps_in_table (described d) E k)
     masks = let h : D.roles ≤ 16 = omega (arith, accepted_sizes d a) in pow_mono h
 
     go : (E : Evidence) → EvidenceInTable D E → Fitting (layout_of D) E
-    go (sample G) t = λ x l. (omega (arith, labels, (t x l).label_in_lem), λ E m. omega (arith, masks, (t x l).masks_in E m))
-    go (refutation C) t = λ i l. omega (arith, labels, (t i l).label_in_lem)
+    go (sample G) t = λ x l. (omega (arith, labels, (t x l).label_inside), λ E m. omega (arith, masks, (t x l).masks_in E m))
+    go (refutation C) t = λ i l. omega (arith, labels, (t i l).label_inside)

@@ -64,12 +64,12 @@ module _ (d : List ℕ) (accepted : AcceptedBytes d) where
   decoded↔ s (sample G) (head, kind, forms, is) =
       subst (λ H. (verdict d s ≡ answer INHABITED none) ↔ (KeepsRules (described d) (sample H) × WithinLimits (sample H))) is (
         λ e. let k = ((inhabited↔ d s).0 e).1 in (k.keeps, k.fits),
-        λ k. (inhabited↔ d s).1 (accepted, record { head = head; is-graph = kind; formed = forms; fits = k.1; keeps = k.0 }),
+        λ k. (inhabited↔ d s).1 (accepted, record { head = head; is_graph = kind; formed = forms; fits = k.1; keeps = k.0 }),
       )
   decoded↔ s (refutation C) (head, kind, forms, is) =
       subst (λ B. (verdict d s ≡ answer EMPTY none) ↔ (KeepsRules (described d) (refutation B) × WithinLimits (refutation B))) is (
         λ e. let k = ((empty↔ d s).0 e).1 in (k.closes, k.fits),
-        λ k. (empty↔ d s).1 (accepted, record { head = head; is-list = kind; formed = forms; fits = k.1; closes = k.0 }),
+        λ k. (empty↔ d s).1 (accepted, record { head = head; is_a_list = kind; formed = forms; fits = k.1; closes = k.0 }),
       )
 
   -- within the limits it keeps the rules exactly when the answer is INHABITED or EMPTY
@@ -77,7 +77,7 @@ module _ (d : List ℕ) (accepted : AcceptedBytes d) where
       → KeepsRules (described d) E ↔ ((verdict d s ≡ answer INHABITED none) ⊎ (verdict d s ≡ answer EMPTY none))
   keeps_when s (sample G) is fits = let w = decoded↔ s (sample G) is in (
     λ k. inl (w.1 (k, fits)),
-    λ t. elim t [ inl e ↦ (w.0 e).0 | inr e ↦ absurd (omega (arith, is.1, ((empty↔ d s).0 e).1.is_list_lem)) ],
+    λ t. elim t [ inl e ↦ (w.0 e).0 | inr e ↦ absurd (omega (arith, is.1, ((empty↔ d s).0 e).1.is_a_list)) ],
   )
   keeps_when s (refutation C) is fits = let w = decoded↔ s (refutation C) is in (
     λ k. inr (w.1 (k, fits)),
@@ -95,7 +95,7 @@ decodes_one f s (refutation C) (refutation B) p q = ap refutation (sym p.3 ∙ q
 pub only_evidence : (d s : List ℕ) → (verdict d s ≡ answer INHABITED none) ⊎ (verdict d s ≡ answer EMPTY none)
     → (E : Evidence) × Decodes (layout_of (described d)) s E × KeepsRules (described d) E × WithinLimits E
 only_evidence d s (inl e) = let k = ((inhabited↔ d s).0 e).1 in (sample (graph_in (layout_of (described d)) s), (k.head, k.is_graph, k.formed, refl), k.keeps, k.fits)
-only_evidence d s (inr e) = let k = ((empty↔ d s).0 e).1 in (refutation (refutation_in (layout_of (described d)) s), (k.head, k.is_list_lem, k.formed, refl), k.closes, k.fits)
+only_evidence d s (inr e) = let k = ((empty↔ d s).0 e).1 in (refutation (refutation_in (layout_of (described d)) s), (k.head, k.is_a_list, k.formed, refl), k.closes, k.fits)
 
 -- ---- lifted evidence that bytes have room for is the evidence of some bytes
 pub stored : (f : Layout) (E : Evidence) → Stored f E → Small (encode f E) × Decodes f (encode f E) E

@@ -3,7 +3,7 @@
 -- entry (an unknown kind, a field that is not used) belongs to 3 and 4 and comes in as two further tests, one of each.
 use Rattle.std.specs.Prelude.{ℕ, zero, suc, ◌≤◌, ◌<◌, ◌≡◌, refl, ◌↔◌, ◌≢◌, Bool, true, not, ◌&&◌, eqb, leb, ltb}
 use Rattle.std.proofs.Common.{sym, ◌∙◌, subst, arith}
-use Rattle.std.proofs.Math.Logic.{Iff·rfl}
+use Rattle.std.proofs.Math.Logic.Iff
 use Rattle.std.proofs.Math.Option.{Option, none}
 use Rattle.std.proofs.Math.Decide.{dec_lt}
 use Rattle.logic.specs.Tests.{So, ◌⇒◌, reading}
@@ -51,7 +51,7 @@ pub record Accepted (D : Description) : Type 0 where
   pub everys_below : (e : ℕ) → e < D.entries → (r : ℕ) (l : Literal) → D.entry e ≡ every r l → EveryBelow D r l
   -- 8: the root and the rules are literals of the table
   pub root_in : entry_of D.root < D.entries
-  pub rules_in_lem : (i : ℕ) → i < D.rules → entry_of (D.rule i) < D.entries
+  pub rules_inside : (i : ℕ) → i < D.rules → entry_of (D.rule i) < D.entries
   -- 26
   pub disjoints_ok : (i : ℕ) → i < D.disjoints → DisjointOk D (D.disjoint i)
 
@@ -123,11 +123,11 @@ description_refusal D = description_tests (λ r. true) (λ e. true) D
 -- ---- the tests say what they should
 pub entry↔ : (D : Description) (e : ℕ) (x : Entry) → So (entry_test D e x) ↔ EntryOk D e x
 unfolding entry_test
-entry↔ D e top = simp reading Iff·rfl
-entry↔ D e name = simp reading Iff·rfl
-entry↔ D e (both a b) = simp reading Iff·rfl
-entry↔ D e (every r l) = simp reading Iff·rfl
-entry↔ D e (at_least r l n) = simp reading Iff·rfl
+entry↔ D e top = simp reading Iff.rfl
+entry↔ D e name = simp reading Iff.rfl
+entry↔ D e (both a b) = simp reading Iff.rfl
+entry↔ D e (every r l) = simp reading Iff.rfl
+entry↔ D e (at_least r l n) = simp reading Iff.rfl
 
 -- with a role and an entry, refused by none of 3 to 8 and 26 exactly if accepted and of the forms
 pub formed↔ : (roleForm entryForm : ℕ → Bool) (D : Description)
@@ -145,7 +145,7 @@ formed↔ roleForm entryForm D = simp (unless↔, below, kinds, narrow↔, entry
       distinct = t.1.1.1.0;
       everys_below = t.1.1.1.1.0;
       root_in = t.1.1.1.1.1.0.0;
-      rules_in_lem = t.1.1.1.1.1.0.1;
+      rules_inside = t.1.1.1.1.1.0.1;
       disjoints_ok = t.1.1.1.1.1.1.0;
     },
     (λ r l. (t.0 r l).0, λ e l. (t.1.0 e l).0),
@@ -158,7 +158,7 @@ formed↔ roleForm entryForm D = simp (unless↔, below, kinds, narrow↔, entry
         λ r l. (f r l, A.parents_in r l),
         (
           λ e l. (g e l, A.fields e l),
-          (A.simples, (A.distinct, (A.everys_below, ((A.root_in, A.rules_in_lem), (A.disjoints_ok, refl))))),
+          (A.simples, (A.distinct, (A.everys_below, ((A.root_in, A.rules_inside), (A.disjoints_ok, refl))))),
         ),
       ),
     ),

@@ -1,7 +1,7 @@
 -- Descriptions as data (01, "The description"; 02, job 5; FORMAT 2): roles, concept entries, the query, and roles that never share a filler.
 use Rattle.std.specs.Prelude.{ℕ, zero, suc, ◌<◌, ◌≡◌, refl, ◌↔◌, Bool, true, false, not, ◌&&◌, List, [], ◌∷◌, eqb}
 use Rattle.std.proofs.Common.{sym, ◌∙◌, ap, subst}
-use Rattle.std.proofs.Math.Logic.{Iff·rfl}
+use Rattle.std.proofs.Math.Logic.Iff
 use Rattle.std.proofs.lemmas.Bool.{false≢true}
 use Rattle.std.proofs.Math.Option.{Option, none, some, some-injective}
 use Rattle.logic.specs.Tests.{So, ◌⇒◌, so_and, eqb_so, reading}
@@ -47,7 +47,7 @@ compatible D m = all_below D.disjoints (λ i. m (D.disjoint i).one ⇒ not (m (D
 
 pub compatible↔ : (D : Description) (m : ℕ → Bool) → So (compatible D m) ↔ Compatible D m
 unfolding compatible
-compatible↔ D m = simp below Iff·rfl
+compatible↔ D m = simp below Iff.rfl
 
 abbrev pub included : Description → ℕ → ℕ → Bool
 included D r s = has (D.parents r) s
@@ -155,27 +155,27 @@ pub if_both↔ : (f : Literal → Literal → Bool) (x : Entry) → So (if_both 
 unfolding if_both
 if_both↔ f x = (
   λ h a b e. subst (λ y. So (if_both f y)) e h,
-  elim x [ top ↦ λ h. refl | name ↦ λ h. refl | both a b ↦ λ h. h a b refl | every r l ↦ λ h. refl | at_least r l n ↦ λ h. refl ],
+  elim x as (λ x. ((a b : Literal) → x ≡ both a b → So (f a b)) → So (if_both f x)) [ top ↦ λ h. refl | name ↦ λ h. refl | both a b ↦ λ h. h a b refl | every r l ↦ λ h. refl | at_least r l n ↦ λ h. refl ],
 )
 
 pub if_every↔ : (f : ℕ → Literal → Bool) (x : Entry) → So (if_every f x) ↔ ((r : ℕ) (l : Literal) → x ≡ every r l → So (f r l))
 unfolding if_every
 if_every↔ f x = (
   λ h r l e. subst (λ y. So (if_every f y)) e h,
-  elim x [ top ↦ λ h. refl | name ↦ λ h. refl | both a b ↦ λ h. refl | every r l ↦ λ h. h r l refl | at_least r l n ↦ λ h. refl ],
+  elim x as (λ x. ((r : ℕ) (l : Literal) → x ≡ every r l → So (f r l)) → So (if_every f x)) [ top ↦ λ h. refl | name ↦ λ h. refl | both a b ↦ λ h. refl | every r l ↦ λ h. h r l refl | at_least r l n ↦ λ h. refl ],
 )
 
 pub if_least↔ : (f : ℕ → Literal → ℕ → Bool) (x : Entry) → So (if_least f x) ↔ ((r : ℕ) (l : Literal) (n : ℕ) → x ≡ at_least r l n → So (f r l n))
 unfolding if_least
 if_least↔ f x = (
   λ h r l n e. subst (λ y. So (if_least f y)) e h,
-  elim x [ top ↦ λ h. refl | name ↦ λ h. refl | both a b ↦ λ h. refl | every r l ↦ λ h. refl | at_least r l n ↦ λ h. h r l n refl ],
+  elim x as (λ x. ((r : ℕ) (l : Literal) (n : ℕ) → x ≡ at_least r l n → So (f r l n)) → So (if_least f x)) [ top ↦ λ h. refl | name ↦ λ h. refl | both a b ↦ λ h. refl | every r l ↦ λ h. refl | at_least r l n ↦ λ h. h r l n refl ],
 )
 
 pub is_both↔ : (f : Literal → Literal → Bool) (x : Entry) → So (is_both f x) ↔ ((a : Literal) × (b : Literal) × (x ≡ both a b) × So (f a b))
 unfolding is_both
 is_both↔ f x = (
-  elim x [
+  elim x as (λ x. So (is_both f x) → (a : Literal) × (b : Literal) × (x ≡ both a b) × So (f a b)) [
     | top ↦ λ h. absurd (false≢true h)
     | name ↦ λ h. absurd (false≢true h)
     | both a b ↦ λ h. (a, b, refl, h)

@@ -50,8 +50,8 @@ module _ (f : Layout) (G : Graph) (w : GraphStored f G) where
   fits : Fits nodes
   unfolding label_bytes longest
   fits = record {
-    some-record = omega (arith, w.some_node, length-map G (encode_node f));
-    few-records = omega (arith, w.few_nodes, length-map G (encode_node f));
+    some_record = omega (arith, w.some_node, length-map G (encode_node f));
+    few_records = omega (arith, w.few_nodes, length-map G (encode_node f));
     starts = λ i h. omega (arith, w.few_nodes, length-map G (encode_node f), before_between 0 longest nodes [] (λ j l. omega (arith, short j l)) i (omega arith));
     lengths = λ i h. omega (arith, short i h);
   }
@@ -141,18 +141,18 @@ module _ (f : Layout) (C : Refutation) (w : RefutationStored f C) where
 
 -- what bytes are read as
 module _ (f : Layout) {r : List ℕ} (b : Small r) (form : RecordForm f r) where
-  step_in_lem : StepAgain f.marks (small_drop (label_size f) b) form.1.0
-  step_in_lem = step_again f.marks (small_drop (label_size f) b) form.1.0 form.1.1
+  step_inside : StepAgain f.marks (small_drop (label_size f) b) form.1.0
+  step_inside = step_again f.marks (small_drop (label_size f) b) form.1.0 form.1.1
 
   record_again : encode_record f (record_in f r) ≡ r
   unfolding encode_record
-  record_again = rw form.1.1 (label_again f.wide (encode_step form.1.0) b form.0 step_in_lem.same)
+  record_again = rw form.1.1 (label_again f.wide (encode_step form.1.0) b form.0 step_inside.same)
 
   record_width : RecordWidth f (record_in f r)
   record_width = rw form.1.1 (record {
     label_fits = (label_bytes_lem f.wide).fits 0 b;
     form_fits = form_fine f.marks (drop (label_size f) r) form.1.0 form.1.1;
-    step_fits = step_in_lem.width;
+    step_fits = step_inside.width;
   })
 
 module _ (f : Layout) {s : List ℕ} (b : Small s) (head : HeadOk s) (forms : (x : ℕ) → x < record_count s → RecordForm f (record_at s x)) where

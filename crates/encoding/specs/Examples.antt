@@ -164,11 +164,11 @@ among P (y ∷ xs) h x m = elim (Memᴰ.cases_cons m) [ inl e ↦ subst P (sym e
 p3_stored : GraphStored narrow p3
 unfolding label_bytes
 p3_stored = record {
-  some-node = omega arith;
-  few-nodes = omega arith;
-  nodes-fit = among (NodeWidth narrow) p3 (
-    record { label-fits = omega arith; few-edges = omega arith; edges_fit = among EdgeWidth _ (record { target_fits = omega arith; mask_fits = omega arith; count_fits = omega arith }, tt) },
-    (record { label-fits = omega arith; few-edges = omega arith; edges_fit = among EdgeWidth [] tt }, tt),
+  some_node = omega arith;
+  few_nodes = omega arith;
+  nodes_fit = among (NodeWidth narrow) p3 (
+    record { label_fits = omega arith; few_edges = omega arith; edges_fit = among EdgeWidth _ (record { target_fits = omega arith; mask_fits = omega arith; count_fits = omega arith }, tt) },
+    (record { label_fits = omega arith; few_edges = omega arith; edges_fit = among EdgeWidth [] tt }, tt),
   );
 }
 
@@ -178,12 +178,12 @@ p3_read = (graph_stored narrow p3 p3_stored).3
 w3_stored : GraphStored broad w3
 unfolding label_bytes
 w3_stored = record {
-  some-node = omega arith;
-  few-nodes = omega arith;
-  nodes-fit = among (NodeWidth broad) w3 (
+  some_node = omega arith;
+  few_nodes = omega arith;
+  nodes_fit = among (NodeWidth broad) w3 (
     record {
-      label-fits = so_ltb _ _ refl;
-      few-edges = omega arith;
+      label_fits = so_ltb _ _ refl;
+      few_edges = omega arith;
       edges_fit = among EdgeWidth _ (record { target_fits = omega arith; mask_fits = omega arith; count_fits = omega arith }, tt);
     },
     tt,
@@ -196,22 +196,22 @@ w3_read = (graph_stored broad w3 w3_stored).3
 p6_stored : RefutationStored narrow p6
 unfolding label_bytes flatten encode_record label encode_step encode_tree when_counting formed depth
 p6_stored = record {
-  records-fit = among (RecordWidth narrow) p6 (
-    record { label-fits = omega arith; form-fits = refl; step_fits = omega arith },
+  records_fit = among (RecordWidth narrow) p6 (
+    record { label_fits = omega arith; form_fits = refl; step_fits = omega arith },
     (
       record {
-        label-fits = omega arith;
-        form-fits = refl;
+        label_fits = omega arith;
+        form_fits = refl;
         step_fits = record {
           rows_fit = among (λ l. code l < 256) (neg 1 ∷ pos 2 ∷ []) (omega arith, (omega arith, tt));
           cells_fit = among (CellWidth false) (cited 0 ∷ cited 0 ∷ unshown ∷ []) (omega arith, (omega arith, (tt, tt)));
-          tree-fits = (omega arith, omega arith, among Byte _ (omega arith, (omega arith, (omega arith, tt))), among Byte _ (omega arith, (omega arith, (omega arith, tt))));
+          tree_fits = (omega arith, omega arith, among Byte _ (omega arith, (omega arith, (omega arith, tt))), among Byte _ (omega arith, (omega arith, (omega arith, tt))));
         };
       },
-      (record { label-fits = omega arith; form-fits = refl; step_fits = (omega arith, omega arith) }, tt),
+      (record { label_fits = omega arith; form_fits = refl; step_fits = (omega arith, omega arith) }, tt),
     ),
   );
-  pairs-fit = record { some-record = omega arith; few-records = omega arith; starts = starts; lengths = lengths };
+  pairs_fit = record { some_record = omega arith; few_records = omega arith; starts = starts; lengths = lengths };
 }
   where
     starts : (i : ℕ) → i < 3 → start (map (encode_record narrow) p6) i < 65536
@@ -232,8 +232,8 @@ p6_read = (refutation_stored narrow p6 p6_stored).3
 w4_stored : RefutationStored broad w4
 unfolding label_bytes flatten encode_record label encode_step when_counting
 w4_stored = record {
-  records-fit = among (RecordWidth broad) w4 (record { label-fits = so_ltb _ _ refl; form-fits = refl; step_fits = omega arith }, tt);
-  pairs-fit = record { some-record = omega arith; few-records = omega arith; starts = starts; lengths = lengths };
+  records_fit = among (RecordWidth broad) w4 (record { label_fits = so_ltb _ _ refl; form_fits = refl; step_fits = omega arith }, tt);
+  pairs_fit = record { some_record = omega arith; few_records = omega arith; starts = starts; lengths = lengths };
 }
   where
     starts : (i : ℕ) → i < 1 → start (map (encode_record broad) w4) i < 65536

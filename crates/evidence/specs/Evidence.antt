@@ -2,7 +2,7 @@
 use Rattle.std.specs.Prelude.{ℕ, ◌+◌, ◌-◌, ◌*◌, ◌/◌, ◌%◌, ◌≤◌, ◌<◌, ◌↔◌, Bool, ◌&&◌, List, [], eqb, leb, take, drop}
 use Rattle.std.proofs.Math.Path.{◌≡◌, refl}
 use Rattle.std.proofs.Common.{◌∙◌, ap, length-drop}
-use Rattle.std.proofs.Math.Logic.{Iff·rfl}
+use Rattle.std.proofs.Math.Logic.Iff
 use Rattle.std.proofs.Math.Bool.{true, false, cond}
 use Rattle.std.proofs.Math.Option.{Option, none, some}
 use borrow.Author.Tests.{ne_eqb, lt-leb, le-leb}
@@ -37,7 +37,7 @@ head_test s = (leb 1 (byte_at s 0) && leb (byte_at s 0) 2) && (leb 1 (record_cou
 
 pub head↔ : (s : List ℕ) → So (head_test s) ↔ HeadOk s
 unfolding head_test
-head↔ s = simp (reading, fills↔) Iff·rfl
+head↔ s = simp (reading, fills↔) Iff.rfl
 
 -- what the head says
 unfoldable pub head_of : List ℕ → Head
@@ -119,7 +119,7 @@ node_form_test f n = leb (label_size f) n && (eqb ((n - label_size f) % 5) 0 && 
 
 pub node_form↔ : (f : Layout) (n : ℕ) → So (node_form_test f n) ↔ NodeForm f n
 unfolding node_form_test
-node_form↔ f n = simp reading Iff·rfl
+node_form↔ f n = simp reading Iff.rfl
 
 -- a record of one width, with whole edges behind its label, is none of the other width
 pub other_width : (b : Bool) (m : ℕ)

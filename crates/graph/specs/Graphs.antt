@@ -43,7 +43,7 @@ total (E ∷ es) p = only (p E) E.count + total es p
 
 -- 11: a label is a consistent set of literals of the table, with all that must be true at the node
 pub record LabelOk (D : Description) (W : List Literal) (L : Label) : Type 0 where
-  pub in_table_lem : InTable D.entries L
+  pub inside_table : InTable D.entries L
   pub has_top : So (L (pos 0))
   pub has_rules : (i : ℕ) → i < D.rules → So (L (D.rule i))
   pub consistent : (e : ℕ) → e < D.entries → So (L (pos e)) → So (L (neg e)) → ⊥
@@ -59,7 +59,7 @@ BothOk D L = (e : ℕ) → e < D.entries → (a b : Literal) → D.entry e ≡ b
 pub record EdgeOk (D : Description) (size : ℕ) (E : Edge) : Type 0 where
   pub target_in : E.target < size
   pub some_role : (r : ℕ) × So (of_role r E)
-  pub roles_in_lem : (r : ℕ) → So (of_role r E) → r < D.roles
+  pub roles_inside : (r : ℕ) → So (of_role r E) → r < D.roles
   pub roles_up : (r : ℕ) → r < D.roles → So (of_role r E) → (s : ℕ) → s < D.roles → So (ancestor D r s) → So (of_role s E)
   pub roles_compatible : Compatible D (λ r. of_role r E)
   pub some_copy : 1 ≤ E.count

@@ -20,14 +20,14 @@ pub relabel : (D : Description) (size : ℕ) (lab lab' : ℕ → Label) (W : Lis
     → ((E : Edge) → E ∈ es → (l : Literal) → lab' E.target l ≡ lab E.target l) → ((l : Literal) → L' l ≡ L l)
     → NodeOk D size lab W L es → NodeOk D size lab' W L' es
 relabel D size lab lab' W L L' es same own o = rw (fun_ext own) (record {
-  label-ok = o.label_ok;
+  label_ok = o.label_ok;
   both_ok = o.both_ok;
-  edges-ok = o.edges_ok;
-  every-ok = λ e h r l q. let w = o.every_ok e h r l q in (
+  edges_ok = o.edges_ok;
+  every_ok = λ e h r l q. let w = o.every_ok e h r l q in (
     λ u E m k. move E m (Passes D r l E) (w.0 u E m k),
     λ u. let v = w.1 u in (v.0, v.1, (v.2.0, move v.0 v.1 (λ M. So (M (opposite l))) v.2.1)),
   );
-  count-ok = λ e h r l n q. let w = o.count_ok e h r l n q in rw (counts r l) (
+  count_ok = λ e h r l n q. let w = o.count_ok e h r l n q in rw (counts r l) (
     w.0,
     λ u. ((w.1 u).0, λ E m k. move E m (λ M. So (M l) ⊎ So (M (opposite l))) ((w.1 u).1 E m k)),
   );

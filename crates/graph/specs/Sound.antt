@@ -66,7 +66,7 @@ module _ (D : Description) (A : Accepted D) (W : List Literal) (G : Graph) (g : 
   link_up r s z w hz a k = let v = link_edge r z w (λ E M. So (of_role s E)) up k in v.1 s ∙ v.2
     where
       up : (E : Edge) → E ∈ edges_at G (z / K) → So (of_role r E) → So (of_role s E)
-      up E m u = let o = (ok z hz).edges_ok E m in let hr = o.roles_in_lem r u in o.roles_up r hr u s (anc_in D A.parents_in r s hr a) a
+      up E m u = let o = (ok z hz).edges_ok E m in let hr = o.roles_inside r u in o.roles_up r hr u s (anc_in D A.parents_in r s hr a) a
 
   -- closing adds nothing to a simple role
   simple_link : (s z w : ℕ) → So (simple D s) → So (I.role s z w) → So (link s z w)
@@ -192,8 +192,8 @@ module _ (D : Description) (A : Accepted D) (W : List Literal) (G : Graph) (g : 
             (k, elim (link_edge r z w (λ E M. So (M l) ⊎ So (M (opposite l))) decided k).2 [ inl a ↦ a | inr a ↦ absurd (opposed l h w hw a u.1) ])))
 
   literal_true : (l : Literal) → ((m : Literal) → entry_of m < entry_of l → True m) → True l
-  literal_true (pos e) ih z hz p = (entry_true e ((ok z hz).label_ok.in_table_lem (pos e) p) ih z hz (D.entry e) refl).0 p
-  literal_true (neg e) ih z hz p = (opposite_true D I (pos e) z).1 ((entry_true e ((ok z hz).label_ok.in_table_lem (neg e) p) ih z hz (D.entry e) refl).1 p)
+  literal_true (pos e) ih z hz p = (entry_true e ((ok z hz).label_ok.inside_table (pos e) p) ih z hz (D.entry e) refl).0 p
+  literal_true (neg e) ih z hz p = (opposite_true D I (pos e) z).1 ((entry_true e ((ok z hz).label_ok.inside_table (neg e) p) ih z hz (D.entry e) refl).1 p)
 
   true_below : (n : ℕ) (l : Literal) → entry_of l < n → True l
   true_below zero l h = absurd (omega arith)

@@ -87,7 +87,7 @@ module _ (rs cs qs : List ℕ) (p : Option (List ℕ)) (a : List ℕ) (masks : M
         label : label_code (entry_count cs) (label_of f s x) (need_of (required_set qs (literal_set W)) (required_set qs 0) x)
             ≡ label_test D (wanted_at W x) (label_of f s x)
         label = ap₂ (λ k K. label_code k (label_of f s x) K) (up_to_all most_entries (length cs / 6) acc.1) (need_is qs W x)
-            ∙ label_is rs cs qs p acc.1 acc.2.rules_in_lem (wanted_at W x) (label_of f s x)
+            ∙ label_is rs cs qs p acc.1 acc.2.rules_inside (wanted_at W x) (label_of f s x)
 
         both : all_below (entry_count cs) (both_at cs (label_of f s x)) ≡ both_test D (members (label_of f s x))
         both = ap (λ k. all_below k (both_at cs (label_of f s x))) (up_to_all most_entries (length cs / 6) acc.1)

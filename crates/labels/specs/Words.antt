@@ -2,7 +2,8 @@
 use Rattle.std.specs.Prelude.{ℕ, zero, suc, ◌+◌, ◌-◌, ◌*◌, ◌/◌, ◌%◌, ◌^◌, ◌<◌, ◌≤◌, ◌≡◌, refl, ◌↔◌, Bool, not, cond, ◌&&◌}
 use Rattle.std.proofs.Math.Path.{sym, ap}
 use Rattle.std.proofs.Common.{◌∙◌, ap₂, subst, div-one, pow_mono, shr-shr}
-use Rattle.std.proofs.Math.Logic.{inl, inr, Iff·rfl}
+use Rattle.std.proofs.Math.Logic.{inl, inr}
+use Rattle.std.proofs.Math.Logic.Iff
 use native.Mathlib.Omega.{arith}
 use Rattle.std.proofs.Math.Decide.{dec_lt}
 use Rattle.std.proofs.Math.Nat.{div-eq_of_lt}
@@ -110,7 +111,7 @@ pub word_apart : (x : ℕ) → eqb (bit_and (bit_and x (x / 2)) evens) 0 ≡ all
 word_apart x = same_test _ _ there back
   where
     met : (i : ℕ) → So (has (bit_and (bit_and x (x / 2)) evens) i) ↔ ((So (has x i) × So (has x (suc i))) × So (has evens i))
-    met i = simp (and_members, has_suc) Iff·rfl
+    met i = simp (and_members, has_suc) Iff.rfl
 
     there : So (eqb (bit_and (bit_and x (x / 2)) evens) 0) → So (all_below 32 (unopposed x))
     there u = all_intro 32 (unopposed x) (λ e l. (imp↔ (has x (2 * e)) _).1 (λ p. (not↔ (has x (2 * e + 1))).1 (λ q.

@@ -156,7 +156,7 @@ module _ (rs cs qs : List ℕ) (p : Option (List ℕ)) (t : List ℕ) (I : Inter
       ≡ follows (describe rs cs qs p) I
   unfolding follows
   follows_is = all_cong (length qs - 1) _ _ (λ i h. ap (λ m. eqb m (all_of I.size))
-      (literal_true rs cs qs p t I _ A (F rs qs p A) (byte_at qs (i + 1)) (A.rules_in_lem i h))
+      (literal_true rs cs qs p t I _ A (F rs qs p A) (byte_at qs (i + 1)) (A.rules_inside i h))
       ∙ full_set_of I.size (holds (describe rs cs qs p) I (literal (byte_at qs (i + 1)))))
 
   pub satisfies_is : nonempty (literal_set I.size t (byte_at qs 0)) ≡ satisfies (describe rs cs qs p) I ((describe rs cs qs p).root ∷ [])

@@ -32,7 +32,7 @@ module _ (D : Description) (A : Accepted D) (few : D.roles ≤ 16) (W : List Lit
   pub direct_in : (r x y : ℕ) → x < size → So (direct G K r x y) → r < D.roles
   unfolding direct
   direct_in r x y h u = let w = owner (edges_at G (x / K)) (y / K) (y % K) r u in
-      ((g.nodes (x / K) (node_in_lem x h)).edges_ok w.0 w.1).roles_in_lem r (sym (w.3 r) ∙ u)
+      ((g.nodes (x / K) (node_in_lem x h)).edges_ok w.0 w.1).roles_inside r (sym (w.3 r) ∙ u)
 
   -- masks M of the pairs, a mask T of the transitive roles, a table a of ancestors
   module _ (M : ℕ → ℕ → ℕ) (masks : (x y : ℕ) → x < size → y < size → (r : ℕ) → has (M x y) r ≡ direct G K r x y)

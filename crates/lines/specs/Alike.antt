@@ -57,7 +57,7 @@ module _ (D : Description) (A : Accepted D) (I J : Interpretation) (same : Alike
         ∙ M.transitivity t ht c x (here x hx) y (here y hy) (role t ht x y hx hy ∙ p) z (here z hz) (role t ht y z hy hz ∙ q);
     disjointness = λ x hx y hy i hi p q. let o = (A.disjoints_ok i hi).0 in
         M.disjointness x (here x hx) y (here y hy) i hi (role _ o.0 x y hx hy ∙ p) (role _ o.1 x y hx hy ∙ q);
-    rules = λ i hi x hx. sym (holds_alike (D.rule i) x (A.rules_in_lem i hi) (here x hx)) ∙ M.rules i hi x (here x hx);
+    rules = λ i hi x hx. sym (holds_alike (D.rule i) x (A.rules_inside i hi) (here x hx)) ∙ M.rules i hi x (here x hx);
   }
     where
       here : (x : ℕ) → x < J.size → x < I.size

@@ -117,12 +117,12 @@ module _ (D : Description) (I : Interpretation) where
   -- and have the form of a line
   pub back_ok : D.entries ≤ most_entries → D.roles ≤ 16 → 1 ≤ I.size → I.size ≤ most_elements → LineOk D (line_bytes D I)
   back_ok entries roles some few = record {
-    some-element = rw elements_back some;
-    few-elements = rw elements_back few;
+    some_element = rw elements_back some;
+    few_elements = rw elements_back few;
     whole = length_tabulate (line_length k I.size) (line_byte D I) ∙ ap (line_length k) (sym elements_back);
-    names_in = λ x hx e u. let w = (set_of↔ D.entries (λ e. is_name (D.entry e) && I.name e x) e).0
+    names_inside = λ x hx e u. let w = (set_of↔ D.entries (λ e. is_name (D.entry e) && I.name e x) e).0
         (sym (ap (λ n. has n e) (name_back x entries (rw elements_back at hx))) ∙ u) in (w.0, and_l (is_name (D.entry e)) (I.name e x) w.1);
-    roles-in = λ x hx y hy r u. ((set_of↔ D.roles (λ r. I.role r x y) r).0
+    roles_inside = λ x hx y hy r u. ((set_of↔ D.roles (λ r. I.role r x y) r).0
         (sym (ap (λ n. has (num2 (line_bytes D I) (pair_at k n x y)) r) elements_back ∙ ap (λ n. has n r) (pair_back x y roles (rw elements_back at hx) (rw elements_back at hy))) ∙ u)).0;
   }
 

@@ -52,8 +52,8 @@ pub record LineOk (D : Description) (s : List ℕ) : Type 0 where
   pub some_element : 1 ≤ elements s
   pub few_elements : elements s ≤ most_elements
   pub whole : length s ≡ line_length (name_size D) (elements s)
-  pub names_in_lem : (x : ℕ) → x < elements s → (e : ℕ) → So (has (names_at (wide_names D) s x) e) → (e < D.entries) × So (is_name (D.entry e))
-  pub roles_in_lem : (x : ℕ) → x < elements s → (y : ℕ) → y < elements s
+  pub names_inside : (x : ℕ) → x < elements s → (e : ℕ) → So (has (names_at (wide_names D) s x) e) → (e < D.entries) × So (is_name (D.entry e))
+  pub roles_inside : (x : ℕ) → x < elements s → (y : ℕ) → y < elements s
       → (r : ℕ) → So (has (num2 s (pair_at (name_size D) (elements s) x y)) r) → r < D.roles
 
 -- the name entries of the table
@@ -68,8 +68,8 @@ line_test D s = leb 1 (elements s) && (leb (elements s) most_elements && (eqb (l
 pub line↔ : (D : Description) (s : List ℕ) → So (line_test D s) ↔ LineOk D s
 unfolding line_test
 line↔ D s = simp (below, narrow↔, within↔, set_of↔) (
-  λ t. record { some_element = t.0; few_elements = t.1.0; whole = t.1.1.0; names_in_lem = t.1.1.1.0; roles_in_lem = t.1.1.1.1 },
-  λ o. (o.some_element, (o.few_elements, (o.whole, (o.names_in, o.roles_in_lem)))),
+  λ t. record { some_element = t.0; few_elements = t.1.0; whole = t.1.1.0; names_inside = t.1.1.1.0; roles_inside = t.1.1.1.1 },
+  λ o. (o.some_element, (o.few_elements, (o.whole, (o.names_inside, o.roles_inside)))),
 )
 
 -- ---- the bytes of an interpretation

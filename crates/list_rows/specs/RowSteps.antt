@@ -90,8 +90,8 @@ half_is b = elim (dec_le 1 (b % 2)) [
   | no q ↦ (let z : b % 2 ≡ 0 = omega arith in rw z refl)
 ]
 
-pub in_table_lem : (cs ds : List ℕ) (j b : ℕ) → b ≡ byte_at ds (2 + j) → ltb (b / 2) (length cs / 6) ≡ in_table cs ds j
-in_table_lem cs ds j b p = rw (half_is b, p) refl
+pub inside_table : (cs ds : List ℕ) (j b : ℕ) → b ≡ byte_at ds (2 + j) → ltb (b / 2) (length cs / 6) ≡ in_table cs ds j
+inside_table cs ds j b p = rw (half_is b, p) refl
 
 module _ (marks : Bool) (ds : List ℕ) (k i c : ℕ) where
   pub cell_none : c ≡ 0 → true ≡ cites_at marks ds k i c

@@ -29,7 +29,7 @@ list_tests D W s = let f = layout_of D in
 -- the bytes have the form of a list, and the refutation that they are is within the limits and closes
 pub record ListKept (D : Description) (W : List Literal) (s : List ℕ) : Type 0 where
   pub head : HeadOk s
-  pub is_list_lem : byte_at s 0 ≡ 2
+  pub is_a_list : byte_at s 0 ≡ 2
   pub formed : (x : ℕ) → x < record_count s → RecordForm (layout_of D) (record_at s x)
   pub fits : RefutationFits stored_refutation (refutation_in (layout_of D) s)
   pub closes : Closes D W (refutation_in (layout_of D) s)
@@ -39,6 +39,6 @@ pub list_kept↔ : (D : Description) → Accepted D → (W : List Literal) (s : 
 unfolding list_tests
 list_kept↔ D A W s = let rules = refutation↔ stored_refutation D A W (refutation_in (layout_of D) s) in simp (refuse↔, unless↔, records↔, reading, head↔, record_form↔) (
   λ t. let g = rules.0 (rw (refutation_size (layout_of D) s) t.0.0.0.1.0, t.1.1) in
-      record { head = t.0.0.0; is_list_lem = t.0.0.1; formed = λ x h. (t.1.0 x h).0; fits = g.1; closes = g.0 },
-  λ k. (((k.head, k.is_list_lem), refl), (λ x h. (k.formed x h, refl), (rules.1 (k.closes, k.fits)).1)),
+      record { head = t.0.0.0; is_a_list = t.0.0.1; formed = λ x h. (t.1.0 x h).0; fits = g.1; closes = g.0 },
+  λ k. (((k.head, k.is_a_list), refl), (λ x h. (k.formed x h, refl), (rules.1 (k.closes, k.fits)).1)),
 )

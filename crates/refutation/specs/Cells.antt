@@ -192,9 +192,9 @@ module _ (D : Description) (A : Accepted D) where
       go name o t = absurd (false≢true t)
       go (both a b) o t = absurd (false≢true t)
 
-  pub rows_in_lem : (lits : List Literal) → ((l : Literal) → l ∈ lits → entry_of l < D.entries) → ((l : Literal) → l ∈ lits → So (is_row (row_of D l)))
+  pub rows_inside : (lits : List Literal) → ((l : Literal) → l ∈ lits → entry_of l < D.entries) → ((l : Literal) → l ∈ lits → So (is_row (row_of D l)))
       → (i : ℕ) → i < length (rows_of D lits) → RowIn D (row_at (rows_of D lits) i)
-  rows_in_lem lits inside rows i h =
+  rows_inside lits inside rows i h =
       let l : i < length lits = omega (arith, length_rows D lits) in
       let m = at_member lits (pos 0) i l in
       rw (row_at_lem D lits i l) (row_in_lem (get_or lits i (pos 0)) (inside _ m) (rows _ m))

@@ -2,7 +2,7 @@
 use Rattle.std.specs.Prelude.{ℕ, zero, suc, ◌*◌, ◌-◌, ◌^◌, ◌≤◌, ◌<◌, ◌≡◌, ◌↔◌, ◌⊎◌, Bool, cond, ◌&&◌, ◌||◌, List, eqb, leb, ltb, length}
 use Rattle.std.proofs.Math.Path.{refl}
 use Rattle.std.proofs.Common.{◌∙◌, subst, inl, inr}
-use Rattle.std.proofs.Math.Logic.{Iff·rfl}
+use Rattle.std.proofs.Math.Logic.Iff
 use Rattle.std.proofs.Math.Bool.{true, false, false≢true}
 use Rattle.std.proofs.Math.Option.{Option, none, some}
 use Rattle.logic.specs.Tests.{So, ◌⇒◌, and↔, reading}
@@ -16,7 +16,7 @@ use Rattle.counting.specs.Rows.{limits, Closed, closed_test}
 use Rattle.description.specs.Literals.{Literal, pos, neg, opposite, code, entry_of, Label, members, adding, literal_set, plus, Within, in_table↔, within_members↔, members_adding, adding↔, literal_set↔, label_of, members_label_of}
 use Rattle.description.specs.Descriptions.{Description, Compatible, compatible, compatible↔, is_both, is_both↔}
 use Rattle.description.specs.Acceptance.{Accepted}
-use Rattle.refutation.specs.Cells.{Row, row_of, is_row, rows_of, bounds, cell_role, Known, known, known↔, rows_in_lem, known_in_lem}
+use Rattle.refutation.specs.Cells.{Row, row_of, is_row, rows_of, bounds, cell_role, Known, known, known↔, rows_inside, known_in_lem}
 use Rattle.refutation.specs.Records.{Cell, unshown, cited, barred, Counting, Step, contradiction, conjunction, disjunction, by_rule, case_split, counting, as_counting, WhenCounting, Record, Refutation, record_at, number_at, cell_at, open_at, literal_at, FormOk, FormFits, Formed, CiteOk, StepOk, in_label, CellFits, CellOk, TreeOk, RecordOk, EndOk, Closes, RefutationLimits, StepValuesFit, RefutationFits}
 
 -- no limits: lifted refutations
@@ -137,28 +137,28 @@ when_both P Q (some K) = (λ h. h, λ h. h)
 module _ (D : Description) (num : ℕ → ℕ) (i N : ℕ) where
   pub cite↔ : (s : Step) → So (cite_test D num i N s) ↔ CiteOk D num i (members N) s
   unfolding cite_test
-  cite↔ (contradiction l) = simp listed Iff·rfl
-  cite↔ (conjunction e c) = simp listed Iff·rfl
-  cite↔ (disjunction e c d) = simp listed Iff·rfl
-  cite↔ (by_rule q c) = simp listed Iff·rfl
-  cite↔ (case_split e c d) = simp listed Iff·rfl
-  cite↔ (counting K) = simp (listed, if_cited↔) Iff·rfl
+  cite↔ (contradiction l) = simp listed Iff.rfl
+  cite↔ (conjunction e c) = simp listed Iff.rfl
+  cite↔ (disjunction e c d) = simp listed Iff.rfl
+  cite↔ (by_rule q c) = simp listed Iff.rfl
+  cite↔ (case_split e c d) = simp listed Iff.rfl
+  cite↔ (counting K) = simp (listed, if_cited↔) Iff.rfl
 
   pub step↔ : (s : Step) → So (step_test D num i N s) ↔ StepOk D num i (members N) s
   unfolding step_test
   step↔ (contradiction l) = and↔ _ _
-  step↔ (conjunction e c) = simp (and↔, is_both↔, within_members↔, members_adding) Iff·rfl
-  step↔ (disjunction e c d) = simp (and↔, is_both↔, within_members↔, members_adding) Iff·rfl
-  step↔ (by_rule q c) = simp (within_members↔, members_adding) Iff·rfl
-  step↔ (case_split e c d) = simp (and↔, within_members↔, members_adding) Iff·rfl
-  step↔ (counting K) = simp listed Iff·rfl
+  step↔ (conjunction e c) = simp (and↔, is_both↔, within_members↔, members_adding) Iff.rfl
+  step↔ (disjunction e c d) = simp (and↔, is_both↔, within_members↔, members_adding) Iff.rfl
+  step↔ (by_rule q c) = simp (within_members↔, members_adding) Iff.rfl
+  step↔ (case_split e c d) = simp (and↔, within_members↔, members_adding) Iff.rfl
+  step↔ (counting K) = simp listed Iff.rfl
 
   -- a known label has no literal past the table, so the number of its literals in the table is the whole of it
   shown↔ : Accepted D → (lits : List Literal) → ((l : Literal) → l ∈ lits → entry_of l < D.entries) → ((l : Literal) → l ∈ lits → So (is_row (row_of D l)))
       → (c j : ℕ) → So (within (num j) (known_label D N lits c)) ↔ ((l : Literal) → So (members (num j) l) → Known D (members N) (rows_of D lits) c l)
   shown↔ A lits inside rows c j = simp (within_members↔, members_label_of, known↔) (
     λ h l u. (h l u).1,
-    λ h l u. (known_in_lem D A (members N) (rows_of D lits) c (rows_in_lem D A lits inside rows) l (h l u), h l u),
+    λ h l u. (known_in_lem D A (members N) (rows_of D lits) c (rows_inside D A lits inside rows) l (h l u), h l u),
   )
 
   fits↔ : Accepted D → (lits : List Literal) → ((l : Literal) → l ∈ lits → entry_of l < D.entries) → ((l : Literal) → l ∈ lits → So (is_row (row_of D l)))
@@ -177,7 +177,7 @@ module _ (D : Description) (num : ℕ → ℕ) (i N : ℕ) where
 
   cell↔ : Accepted D → (s : Step) → CiteOk D num i (members N) s → StepOk D num i (members N) s → So (cell_test D num i N s) ↔ CellOk D num i (members N) s
   unfolding when_counting
-  cell↔ A (counting K) n a = simp (listed, fits↔ A K.rows n.0 (λ l m. (a.0 l m).1)) Iff·rfl
+  cell↔ A (counting K) n a = simp (listed, fits↔ A K.rows n.0 (λ l m. (a.0 l m).1)) Iff.rfl
   cell↔ A (contradiction l) n a = (λ h. tt, λ h. refl)
   cell↔ A (conjunction e c) n a = (λ h. tt, λ h. refl)
   cell↔ A (disjunction e c d) n a = (λ h. tt, λ h. refl)
@@ -198,15 +198,15 @@ module _ (D : Description) (num : ℕ → ℕ) (i N : ℕ) where
   record↔ A fits s = simp (unless↔, and↔, in_table↔, cite↔, step↔, closing↔) (
     λ t. (
       record {
-        in-table = t.0.0;
-        cite-ok = t.0.1;
-        step_ok = t.1.0;
-        cell-ok = (cell↔ A s t.0.1 t.1.0).0 t.1.1.0;
-        tree-ok = t.1.1.1.0.0;
+        inside_table = t.0.0;
+        cite_ok = t.0.1;
+        step_holds = t.1.0;
+        cell_ok = (cell↔ A s t.0.1 t.1.0).0 t.1.1.0;
+        tree_ok = t.1.1.1.0.0;
       },
       t.1.1.1.0.1,
     ),
-    λ o. ((o.0.in_table_lem, o.0.cite-ok), (o.0.step_ok, ((cell↔ A s o.0.cite-ok o.0.step_ok).1 o.0.cell-ok, ((o.0.tree-ok, o.1), refl)))),
+    λ o. ((o.0.inside_table, o.0.cite_ok), (o.0.step_holds, ((cell↔ A s o.0.cite_ok o.0.step_holds).1 o.0.cell_ok, ((o.0.tree_ok, o.1), refl)))),
   )
 
 -- 20
@@ -218,11 +218,11 @@ members_end W l = (
 )
 
 pub end↔ : (W : List Literal) (N : ℕ) → So (within N (end_label W)) ↔ EndOk W N
-end↔ W N = simp (within_members↔, members_end) Iff·rfl
+end↔ W N = simp (within_members↔, members_end) Iff.rfl
 
 pub form↔ : (lim : RefutationLimits) (o : Option Counting) → So (when_counting (form_test lim) o) ↔ (WhenCounting FormOk o × WhenCounting (FormFits lim) o)
 form↔ lim o =
-    let t = when_counting↔ (form_test lim) (λ K. FormOk K × FormFits lim K) (λ K. simp reading Iff·rfl) o in
+    let t = when_counting↔ (form_test lim) (λ K. FormOk K × FormFits lim K) (λ K. simp reading Iff.rfl) o in
     let b = when_both FormOk (FormFits lim) o in
     (λ h. b.0 (t.0 h), λ h. t.1 (b.1 h))
 
@@ -233,11 +233,11 @@ unfolding refutation_refusal
 refutation↔ lim D A W C = simp (records↔, refuse↔, unless↔, form↔, record↔ D (number_at C), A, end↔) (
   λ t. (
     record {
-      some-record = t.0;
+      some_record = t.0;
       valid = record { forms = λ i l. (t.1.0 i l).0.0; records = λ i l. (t.1.1.0 i l).0 };
       end = t.1.1.1.0.0;
     },
-    record { forms-fit = λ i l. (t.1.0 i l).0.1; values-fit = λ i l. (t.1.1.0 i l).1 },
+    record { forms_fit = λ i l. (t.1.0 i l).0.1; values_fit = λ i l. (t.1.1.0 i l).1 },
   ),
   λ o. (
     o.0.some_record,
@@ -253,7 +253,7 @@ pub lifted_refutation↔ : (D : Description) → Accepted D → (W : List Litera
     → ((1 ≤ length C) × (refutation_refusal any_refutation D W C ≡ none)) ↔ Closes D W C
 lifted_refutation↔ D A W C = (
   λ e. ((refutation↔ any_refutation D A W C).0 e).0,
-  λ k. (refutation↔ any_refutation D A W C).1 (k, record { forms-fit = λ i l. any_form (as_counting (record_at C i).step); values-fit = λ i l. any_value (as_counting (record_at C i).step) }),
+  λ k. (refutation↔ any_refutation D A W C).1 (k, record { forms_fit = λ i l. any_form (as_counting (record_at C i).step); values_fit = λ i l. any_value (as_counting (record_at C i).step) }),
 )
   where
     any_form : (o : Option Counting) → WhenCounting (FormFits any_refutation) o

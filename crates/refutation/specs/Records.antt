@@ -128,9 +128,9 @@ module _ (D : Description) (num : ℕ → ℕ) (i : ℕ) (L : Label) where
 
   pub record RecordOk (s : Step) : Type 0 where
     -- 16 too, of the own label
-    pub in_table_lem : InTable D.entries L
+    pub inside_table : InTable D.entries L
     pub cite_ok : CiteOk s
-    pub step_ok_lem : StepOk s
+    pub step_holds : StepOk s
     pub cell_ok : CellOk s
     pub tree_ok : TreeOk s
 

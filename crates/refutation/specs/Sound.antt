@@ -17,7 +17,7 @@ use Rattle.description.specs.Descriptions.{Entry, top, name, both, every, at_lea
 use Rattle.description.specs.Acceptance.{Accepted}
 use Rattle.interpretation.specs.Meaning.{Interpretation, truth, holds}
 use Rattle.interpretation.specs.Models.{Model, Satisfies, AllTrue, plus_true, opposite_true, role_up, top_true, both_true, every_true, least_true, every_false}
-use Rattle.refutation.specs.Cells.{Row, positive_row, negative_row, row_of, is_row, row_from, rows_of, row_at, bounds, cell_role, Known, topmost, qualified, denied, passed, onward, length_rows, length_bounds, bound_at_lem, row_at_lem, rows_in_lem, RowIn}
+use Rattle.refutation.specs.Cells.{Row, positive_row, negative_row, row_of, is_row, row_from, rows_of, row_at, bounds, cell_role, Known, topmost, qualified, denied, passed, onward, length_rows, length_bounds, bound_at_lem, row_at_lem, rows_inside, RowIn}
 use Rattle.refutation.specs.Records.{Cell, unshown, cited, barred, Counting, Step, contradiction, conjunction, disjunction, by_rule, case_split, counting, Refutation, record_at, number_at, cell_at, open_at, is_open, literal_at, CiteOk, StepOk, Cites, in_label, CellFits, CellOk, TreeOk, RecordOk, Closes}
 
 -- no element of any model has all of L
@@ -122,7 +122,7 @@ module _ (D : Description) (A : Accepted D) (num : ℕ → ℕ) (i : ℕ) (L : L
       → Refuted D L
   counting_sound K n a s e I M x hx all =
       closed_no_fillers _ _ K.tree e
-      (as_fillers D A I M x hx L all rows (rows_in_lem D A K.rows n.0 (λ l m. (a.0 l m).1)) met (open_at K.cells) empty)
+      (as_fillers D A I M x hx L all rows (rows_inside D A K.rows n.0 (λ l m. (a.0 l m).1)) met (open_at K.cells) empty)
     where
       rows : List Row
       rows = rows_of D K.rows
@@ -147,27 +147,27 @@ module _ (D : Description) (A : Accepted D) (num : ℕ → ℕ) (i : ℕ) (L : L
 
   pub record_sound : (s : Step) → RecordOk D num i L s → Refuted D L
   record_sound (contradiction l) ok I M x hx all =
-      (opposite_true D I l x).0 (in_label_lem I x (opposite l) all ok.step_ok.1) (in_label_lem I x l all ok.step_ok.0)
+      (opposite_true D I l x).0 (in_label_lem I x (opposite l) all ok.step_holds.1) (in_label_lem I x l all ok.step_holds.0)
   record_sound (conjunction e c) ok I M x hx all =
-      let w = ok.step_ok.1 in
-      let t = (both_true D A I e x w.0 w.1 ok.cite-ok.0 w.2).0 (all (pos e) ok.step_ok.0) in
-      cited_refuted c _ ok.cite-ok.1 w.3 I M x hx (plus_true D I (plus L w.0) w.1 x (plus_true D I L w.0 x all t.0) t.1)
+      let w = ok.step_holds.1 in
+      let t = (both_true D A I e x w.0 w.1 ok.cite_ok.0 w.2).0 (all (pos e) ok.step_holds.0) in
+      cited_refuted c _ ok.cite_ok.1 w.3 I M x hx (plus_true D I (plus L w.0) w.1 x (plus_true D I L w.0 x all t.0) t.1)
   record_sound (disjunction e c d) ok I M x hx all =
-      let w = ok.step_ok.1 in
+      let w = ok.step_holds.1 in
       elim (decide (holds D I w.0 x)) [
         | inl p ↦ elim (decide (holds D I w.1 x)) [
-          | inl q ↦ not_so _ (all (neg e) ok.step_ok.0) ((both_true D A I e x w.0 w.1 ok.cite-ok.0 w.2).1 (p, q))
-          | inr q ↦ cited_refuted d _ ok.cite-ok.1.1 w.3.1 I M x hx (plus_true D I L (opposite w.1) x all ((opposite_true D I w.1 x).1 q))
+          | inl q ↦ not_so _ (all (neg e) ok.step_holds.0) ((both_true D A I e x w.0 w.1 ok.cite_ok.0 w.2).1 (p, q))
+          | inr q ↦ cited_refuted d _ ok.cite_ok.1.1 w.3.1 I M x hx (plus_true D I L (opposite w.1) x all ((opposite_true D I w.1 x).1 q))
         ]
-        | inr p ↦ cited_refuted c _ ok.cite-ok.1.0 w.3.0 I M x hx (plus_true D I L (opposite w.0) x all ((opposite_true D I w.0 x).1 p))
+        | inr p ↦ cited_refuted c _ ok.cite_ok.1.0 w.3.0 I M x hx (plus_true D I L (opposite w.0) x all ((opposite_true D I w.0 x).1 p))
       ]
   record_sound (by_rule q c) ok I M x hx all =
-      cited_refuted c _ ok.cite-ok.1 ok.step_ok I M x hx (plus_true D I L (D.rule q) x all (M.rules q ok.cite-ok.0 x hx))
+      cited_refuted c _ ok.cite_ok.1 ok.step_holds I M x hx (plus_true D I L (D.rule q) x all (M.rules q ok.cite_ok.0 x hx))
   record_sound (case_split e c d) ok I M x hx all = elim (decide (truth D I e x)) [
-    | inl p ↦ cited_refuted c _ ok.cite-ok.1.0 ok.step_ok.0 I M x hx (plus_true D I L (pos e) x all p)
-    | inr p ↦ cited_refuted d _ ok.cite-ok.1.1 ok.step_ok.1 I M x hx (plus_true D I L (neg e) x all (so_not _ p))
+    | inl p ↦ cited_refuted c _ ok.cite_ok.1.0 ok.step_holds.0 I M x hx (plus_true D I L (pos e) x all p)
+    | inr p ↦ cited_refuted d _ ok.cite_ok.1.1 ok.step_holds.1 I M x hx (plus_true D I L (neg e) x all (so_not _ p))
   ]
-  record_sound (counting K) ok I M x hx all = counting_sound K ok.cite-ok ok.step_ok ok.cell-ok ok.tree-ok I M x hx all
+  record_sound (counting K) ok I M x hx all = counting_sound K ok.cite_ok ok.step_holds ok.cell_ok ok.tree_ok I M x hx all
 
 -- ---- the whole
 -- no element of any model has the label of any of the records

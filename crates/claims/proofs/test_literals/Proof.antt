@@ -17,10 +17,10 @@ in-table-requires-2 : tie.Need-in-table-requires-2
 in-table-requires-2 c κs = search rules
 
 returns : tie.Need-returns
-returns c = sym (test_refuses 0 24 _ (ap (λ b. b && in_table c.before.before.before.before.args.cs.now c.before.before.before.before.args.k.d) (sym c.before.before.in_table_lem.ensures) ∙ ap (λ b. c.before.before.in_table_lem.result && b) (sym c.before.in-table2.ensures) ∙ not-true _ c.if1.true))
+returns c = sym (test_refuses 0 24 _ (ap (λ b. b && in_table c.before.before.before.before.args.cs.now c.before.before.before.before.args.k.d) (sym c.before.before.inside_table.ensures) ∙ ap (λ b. c.before.before.inside_table.result && b) (sym c.before.in-table2.ensures) ∙ not-true _ c.if1.true))
 
 returns-2 : tie.Need-returns-2
-returns-2 c = sym (test_passes 0 24 _ (ap (λ b. b && in_table c.before.before.before.before.args.cs.now c.before.before.before.before.args.k.d) (sym c.before.before.in_table_lem.ensures) ∙ ap (λ b. c.before.before.in_table_lem.result && b) (sym c.before.in-table2.ensures) ∙ not-false _ c.if1.false))
+returns-2 c = sym (test_passes 0 24 _ (ap (λ b. b && in_table c.before.before.before.before.args.cs.now c.before.before.before.before.args.k.d) (sym c.before.before.inside_table.ensures) ∙ ap (λ b. c.before.before.inside_table.result && b) (sym c.before.in-table2.ensures) ∙ not-false _ c.if1.false))
 
 pub test-literals-spec : {M : Type 1} → statement M
 test-literals-spec = tie.close (tie.spec in-table-requires in-table-requires-2 returns returns-2)

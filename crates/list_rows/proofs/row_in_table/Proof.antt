@@ -1,4 +1,4 @@
-use Rattle.list_rows.specs.RowSteps.{in_table_lem}
+use Rattle.list_rows.specs.RowSteps.{inside_table}
 use borrow.Author.Rules.{rules}
 use Rattle.list_rows.proofs.row_in_table.Statement.{statement}
 use Rattle.list_rows.proofs.row_in_table.Tie as tie
@@ -16,7 +16,7 @@ cast-result : tie.Need-overflow-cast-result
 cast-result c = search rules
 
 returns : tie.Need-returns
-returns c = in_table_lem c.before.before.before.args.cs.now c.before.before.before.args.ds.now c.before.before.before.args.j _ c.byte.ensures
+returns c = inside_table c.before.before.before.args.cs.now c.before.before.before.args.ds.now c.before.before.before.args.j _ c.byte.ensures
 
 pub row-in-table-spec : {M : Type 1} → statement M
 row-in-table-spec = tie.close (tie.spec add-byte byte-requires cast-result returns)

@@ -26,7 +26,7 @@ names-in-requires : tie.Need-names-in-requires invariant-loop decreases-loop
 names-in-requires c κs = search rules
 
 returns : tie.Need-returns invariant-loop decreases-loop
-returns c = sym (all_stop _ c.before.before.before.loop.x _ (omega arith) (sym c.before.names_in.ensures ∙ not-true _ c.if1.true))
+returns c = sym (all_stop _ c.before.before.before.loop.x _ (omega arith) (sym c.before.names_inside.ensures ∙ not-true _ c.if1.true))
 
 add-x : tie.Need-overflow-add-x invariant-loop decreases-loop
 add-x c = omega arith
@@ -35,7 +35,7 @@ loop-less : tie.Need-loop-smaller invariant-loop decreases-loop
 loop-less c = omega arith
 
 loop-again : tie.Need-loop-preserved invariant-loop decreases-loop
-loop-again c = (omega arith, c.before.before.before.loop.invariant.1, all_more _ c.before.before.before.loop.x c.before.before.before.loop.invariant.2 (sym c.before.names_in.ensures ∙ not-false _ c.if1.false))
+loop-again c = (omega arith, c.before.before.before.loop.invariant.1, all_more _ c.before.before.before.loop.x c.before.before.before.loop.invariant.2 (sym c.before.names_inside.ensures ∙ not-false _ c.if1.false))
 
 returns-2 : tie.Need-returns-2 invariant-loop decreases-loop
 returns-2 c = sym (all_done _ c.before.loop.x _ (omega arith) (omega arith) c.before.loop.invariant.2)
