@@ -121,7 +121,10 @@ refutation_refusal lim D W C =
 -- ---- the tests say what the rules say
 pub if_cited↔ : (p : ℕ → Bool) (x : Cell) → So (if_cited p x) ↔ ((j : ℕ) → x ≡ cited j → So (p j))
 unfolding if_cited
-if_cited↔ p x = (λ h j e. subst (λ y. So (if_cited p y)) e h, elim x [ unshown ↦ λ h. refl | cited j ↦ λ h. h j refl | barred ↦ λ h. refl ])
+if_cited↔ p x = (
+  λ h j e. subst (λ y. So (if_cited p y)) e h,
+  elim x as (λ x. ((j : ℕ) → x ≡ cited j → So (p j)) → So (if_cited p x)) [ unshown ↦ λ h. refl | cited j ↦ λ h. h j refl | barred ↦ λ h. refl ],
+)
 
 -- a test of the counting steps tests what it tests of one
 pub when_counting↔ : (p : Counting → Bool) (P : Counting → Type 0) → ((K : Counting) → So (p K) ↔ P K) → (o : Option Counting)
