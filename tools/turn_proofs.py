@@ -41,11 +41,12 @@ def chunks(text):
 
 class Function:
     def __init__(self, crate, path, names):
-        self.crate, self.path, self.said = crate, path, []
+        self.crate, self.path, self.said, self.whole = crate, path, [], set()
         self.names = names
         self.parent = {it[0]: it[1] for it in names["places"]}
         self.field = {it[0]: it[2] for it in names["places"]}
         self.new_place = dict(zip([it[0] for it in names["places"]], names["places_by_name"]))
+        self.arm = dict(zip([it[0] for it in names["places"]], names["arms"]))
 
     def say(self, text):
         self.said.append(f"{self.crate}/{self.path}: {text}")
@@ -62,7 +63,13 @@ class Function:
         if field is None:
             return self.new_place.get(at)
         own = self.field[at]
+        path = rest.strip(".").split(".") if rest else []
         plain = lambda it: it.lower().replace("_", "-").removesuffix("-lem")
+        # what a pattern binds, and what it says of the value
+        for step, _, fields in [self.arm[at]] if self.arm.get(at) else []:
+            for new, old, way in sorted(fields, key=lambda it: -len(it[2])):
+                if plain(old) == plain(field) and path[: len(way)] == way:
+                    return ".".join([step, new, *path[len(way) :]]), True
         if at == "Start" or self.parent[at] is None:
             return field
         if plain(own[0]) == plain(field):
@@ -77,22 +84,28 @@ class Function:
         return field
 
     def body(self, text, var, place, goal):
+        # a name for the facts of an earlier step is written out, since the steps lie side by side now
+        while at := re.search(rf"let (\w+) = ({var}(?:\.before)*) in\s*", text):
+            text = text[: at.start()] + re.sub(rf"(?<![\w.'-]){at[1]}(?![\w'-])", at[2], text[at.end() :])
         def one(m):
             steps = m[1].count(".before")
-            field = m[2]
-            new = self.fact(place, steps, field, "")
+            field, rest = m[2], m[3] or ""
+            new = self.fact(place, steps, field, rest)
             if new is None:
                 self.say(f"{goal}: {m[0]} leads nowhere")
                 return m[0]
-            return f"{var}.{new}"
+            if isinstance(new, tuple):
+                return f"{var}.{new[0]}"
+            return f"{var}.{new}{rest}"
 
-        text = re.sub(rf"(?<![\w.'-]){var}((?:\.before)*)\.(?!before\b)({NAME})", one, text)
+        text = re.sub(rf"(?<![\w.'-]){var}((?:\.before)*)\.(?!before\b)({NAME})((?:\.{NAME})*)", one, text)
 
         def whole(m):
             new = self.fact(place, m[1].count(".before"), None, "")
             if not goal:
                 self.say(f"a fact of {place} is passed whole: {m[0]}")
                 return m[0]
+            self.whole.add(new)
             return f"(goal.at.{goal} {var}).{new}"
 
         return re.sub(rf"(?<![\w.'-]){var}((?:\.before)*)(?![\w.'-])", whole, text)
@@ -111,6 +124,9 @@ def invariant(fn, name, params, body, live, changed):
             fn.say(f"{name}: more parameters than variables: {params}, {live}")
     if len(params) != len(live) + len(later):
         fn.say(f"{name}: parameters {params}, variables {live}, changed {changed}")
+    for p in values:
+        if re.search(rf"λ (?:[^.]* )?{re.escape(p)}(?: [^.]*)?\.", body) and not re.search(rf"{re.escape(p)}'", body):
+            body = re.sub(rf"λ ((?:[^.(]* )?){re.escape(p)}((?: [^.(]*)?)\. ([^()]*(?:\([^()]*(?:\([^()]*(?:\([^()]*\)[^()]*)*\)[^()]*)*\)[^()]*)*)", lambda m: f"λ {m[1]}{p}'{m[2]}. " + re.sub(rf"(?<![\w.'-]){re.escape(p)}(?![\w'-])", p + "'", m[3]), body)
     return names_in(fn, name, body, values)
 
 
@@ -141,6 +157,11 @@ def turn(crate, path, folder, names):
             continue
         parsed.append((at[1], at[2], notes, code))
     of_needs = [name for name, kind, _, _ in parsed if kind.startswith("tie.Need-")]
+    # the last lines hand the answers over in the order of the goals
+    last = "\n".join(found[-1]).partition("tie.spec")[2]
+    handed = [it for it in re.findall(NAME, last) if it in of_needs]
+    if len(handed) == len(of_needs):
+        of_needs = handed
     if len(of_needs) != len(needs):
         fn.say(f"{len(of_needs)} answers for {len(needs)} goals")
     for name, kind, notes, code in parsed:
@@ -177,7 +198,7 @@ def turn(crate, path, folder, names):
         if kind.startswith("tie.Need-"):
             i += 1
             bare = kind.split()[0].removeprefix("tie.Need-").replace("overflow-", "")
-            at = i if len(of_needs) == len(needs) else next((old_needs[it] for it in (name, bare) if it in old_needs), None)
+            at = of_needs.index(name) if len(of_needs) == len(needs) else next((old_needs[it] for it in (name, bare) if it in old_needs), None)
             if at is None:
                 fn.say(f"no goal for {name}: {text[:120]}")
                 continue
@@ -211,7 +232,11 @@ def turn(crate, path, folder, names):
             elif "tie." in kind:
                 fn.say(f"a lemma over the record of facts: {name}")
             bodies.append("\n".join([*notes, f"{name} : {kind}", text]))
+    # what a test of `!x` says is said of x now
+    bodies = [re.sub(r"not-(?:true|false) _ (c\.if-not[\w-]*\.(?:true|false))", r"\1", it) for it in bodies]
     kept = [it for it in uses if not re.search(r"\.(Statement\.\{|Tie as |Reads as |Lts as )", it)]
+    if fn.whole:
+        kept.append(f"use Rattle.{crate}.proofs.{path}.Goals.{{{', '.join(sorted(fn.whole))}}}")
     files = {}
     if invariants:
         files["Invariants"] = [*kept, f"use Rattle.{crate}.proofs.{path}.Given as goal"], invariants

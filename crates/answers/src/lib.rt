@@ -1,14 +1,14 @@
 // What the tests and the public functions answer.
 
 // A test: nothing to refuse, or a refusal's number and record.
-#[derive(Drop)]
+#[derive(Clone, Copy)]
 pub enum Tested {
     Fine,
     Refused(u8, u8),
 }
 
 // The answer to evidence.
-#[derive(Drop)]
+#[derive(Clone, Copy)]
 pub enum Verdict {
     Inhabited,
     Empty,
@@ -16,7 +16,7 @@ pub enum Verdict {
 }
 
 // The answer on a claim "every C is D".
-#[derive(Drop)]
+#[derive(Clone, Copy)]
 pub enum Judgement {
     Holds,
     Fails,
@@ -25,14 +25,14 @@ pub enum Judgement {
 }
 
 // The answer of the line writer: the length of the line that it wrote.
-#[derive(Drop)]
+#[derive(Clone, Copy)]
 pub enum Written {
     Line(usize),
     Refused(u8, u8),
 }
 
 // The answer of the direct reading of a line.
-#[derive(Drop)]
+#[derive(Clone, Copy)]
 pub enum Reading {
     Holds,
     Fails,
@@ -40,14 +40,14 @@ pub enum Reading {
 }
 
 // The answer of an operation of the editor.
-#[derive(Drop)]
+#[derive(Clone, Copy)]
 pub enum Change {
     Done,
     Refused(u8, u8),
 }
 
 // The answer of a writer: how many bytes it wrote.
-#[derive(Drop)]
+#[derive(Clone, Copy)]
 pub enum Output {
     Bytes(usize),
     Refused(u8, u8),

@@ -13,7 +13,7 @@ use labels::{Label, MOST_ENTRIES, lies_within, put};
 use tables::EntryNo;
 
 // What a cite finds: a record before the one that cites, or nothing.
-#[derive(Drop)]
+#[derive(Clone, Copy)]
 pub enum Cite {
     Earlier(u8),
     Bad,

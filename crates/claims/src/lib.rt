@@ -15,21 +15,21 @@ use list_check::test_list;
 use nodes::opposite;
 
 // The literals C and D of a claim, by number.
-#[derive(Drop)]
+#[derive(Clone, Copy)]
 pub struct Claim {
     pub c: u8,
     pub d: u8,
 }
 
 // What is asked of an opened description beside its masks and parts: how many roles it has, and whether it has a fourth part.
-#[derive(Drop)]
+#[derive(Clone, Copy)]
 struct Shape {
     roles: u8,
     marks: bool,
 }
 
 // The kinds of the pieces of evidence, in the order given.
-#[derive(Drop)]
+#[derive(Clone, Copy)]
 pub enum Pieces {
     ListAndGraph,
     GraphAlone,

@@ -11,7 +11,7 @@ use parts::{byte, mask2, read2, up_to};
 use roles::disjoint::{compatible, no_records};
 use roles::{fits16, has16};
 
-#[derive(Drop)]
+#[derive(Clone, Copy)]
 pub struct Edge {
     pub target: u8,
     pub mask: u16,

@@ -4,7 +4,7 @@ use libc::STDOUT_FILENO;
 use vector_rows::{field, number};
 
 // An answer: 0 or a refusal's number and record, how many bytes were written, and whether the buffer is right.
-#[derive(Drop)]
+#[derive(Clone, Copy)]
 pub(crate) struct Answer {
     pub(crate) number: u8,
     pub(crate) place: u8,

@@ -15,14 +15,14 @@ const MOST_RECORDS: u8 = 64;
 pub const MOST_EDGES: usize = 32;
 
 // How the records of evidence for a description are stored: with wide labels or not, and with a mark for cells that their roles bar or not.
-#[derive(Drop)]
+#[derive(Clone, Copy)]
 pub struct Layout {
     pub wide: bool,
     pub marks: bool,
 }
 
 // What evidence is, with the number of its records.
-#[derive(Drop)]
+#[derive(Clone, Copy)]
 pub enum Head {
     GraphOf(u8),
     RefutationOf(u8),

@@ -11,7 +11,7 @@ use tally::{Answer, expected, print_answer, print_counts, same, slot};
 use vector_rows::{count, field, file_space, is_remark, mark_from};
 
 // What the rows of a file ask.
-#[derive(Drop)]
+#[derive(Clone, Copy)]
 enum Kind {
     Check,
     Claim,

@@ -5,7 +5,7 @@ use parts::byte;
 use vector_rows::{field, number};
 
 // An answer: the first letter of its word, or 'V' for HOLDS OF NOTHING, then a refusal's number and record, or a line's length.
-#[derive(Drop)]
+#[derive(Clone, Copy)]
 pub(crate) struct Answer {
     pub(crate) word: u8,
     pub(crate) number: usize,

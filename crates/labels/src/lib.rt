@@ -27,7 +27,7 @@ const WORD_LITERALS: u8 = 32;
 const WORD_ENTRIES: u8 = WORD_LITERALS / 2;
 
 // Literals 64 to 127, and 0 to 63.
-#[derive(Drop)]
+#[derive(Clone, Copy)]
 pub struct Label {
     high: u64,
     low: u64,

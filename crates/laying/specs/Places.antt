@@ -127,7 +127,7 @@ pub stands_flatten : {s : List ℕ} {at : ℕ} (ws : List (List ℕ)) → at ≤
 unfolding flatten
 stands_flatten [] l h = stands_none l
 stands_flatten {s} {at} (w ∷ ws) l h = let a : Stands s at w = rw add-zero at (h 0 (omega arith)) in
-    stands_append w (flatten ws) a (stands_flatten ws a.inside (λ i k.
+    stands_append w (flatten ws) a (stands_flatten {at = at + length w} ws a.inside (λ i k.
     let z : at + before (w ∷ ws) (suc i) ≡ at + length w + before ws i = omega (arith, length-append w (flatten (take i ws))) in rw z at
     (h (suc i) (omega arith))))
 

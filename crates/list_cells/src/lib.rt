@@ -33,7 +33,7 @@ fn may_have(m: &[u16; 49], roles: u16) -> bool
 }
 
 // The answer for one cell: barred by its roles, or what every filler of it has.
-#[derive(Drop)]
+#[derive(Clone, Copy)]
 pub enum CellAnswer {
     Barred,
     Knows(Label),
@@ -93,7 +93,7 @@ fn cell_ok(
 }
 
 // What a walk over cells found: whether all were fine, the cell that it came to, and how many rows came in or went out on the way.
-#[derive(Drop)]
+#[derive(Clone, Copy)]
 struct Walk {
     fine: bool,
     cells: u8,

@@ -8,7 +8,7 @@ ghost use Rattle.list_form.specs.FormSteps.{end_of, formed};
 use parts::byte;
 
 // What stands at a place of a tree: a leaf with the place where it ends, a split, or neither.
-#[derive(Drop)]
+#[derive(Clone, Copy)]
 pub enum Node {
     Leaf(usize),
     Split,

@@ -12,7 +12,7 @@ ghost use Rattle.list_leaf.specs.Totals.{Priced, Totals};
 use tables::Side;
 
 // A limit on the way to a leaf: a row, or a half of a split of `cell`. The bound stands first, so that a limit has four bytes: each level of a tree holds 14.
-#[derive(Drop)]
+#[derive(Clone, Copy)]
 pub struct Limit {
     pub bound: u16,
     pub side: Side,

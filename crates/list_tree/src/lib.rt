@@ -20,7 +20,7 @@ use rows::{Row, cell_count, row_at};
 use tables::Side;
 
 // A node under the limits on its way: a leaf that closes, with the place where it ends; a split that fits; or neither, which is 19.
-#[derive(Drop)]
+#[derive(Clone, Copy)]
 enum Fit {
     Closing(usize),
     Splitting,

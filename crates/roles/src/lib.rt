@@ -12,7 +12,7 @@ use parts::{byte, mask2, up_to};
 
 // A role in working memory: its two fields of the description, the roles that it is included in by any number of steps, itself among
 // them, and whether no transitive role is included in it.
-#[derive(Drop)]
+#[derive(Clone, Copy)]
 pub struct Role {
     pub transitive: u8,
     pub parents: u16,

@@ -13,7 +13,7 @@ use nodes::opposite;
 use parts::{byte, up_to};
 use tables::{Concept, LiteralConcept, RoleNo, Side, literal_concept};
 
-#[derive(Drop)]
+#[derive(Clone, Copy)]
 pub struct Row {
     pub role: RoleNo,
     pub qualifier: u8,
@@ -22,7 +22,7 @@ pub struct Row {
 }
 
 // The row that a literal gives, if it gives one.
-#[derive(Drop)]
+#[derive(Clone, Copy)]
 pub enum RowOf {
     Is(Row),
     Nothing,

@@ -9,20 +9,20 @@ use labels::MOST_ENTRIES;
 use parts::{byte, read2, up_to};
 
 // The number of a role, and of an entry: never one for the other.
-#[derive(Drop)]
+#[derive(Clone, Copy)]
 pub struct RoleNo(pub u8);
 
-#[derive(Drop)]
+#[derive(Clone, Copy)]
 pub struct EntryNo(pub u8);
 
-#[derive(Drop)]
+#[derive(Clone, Copy)]
 pub enum Side {
     Lower,
     Upper,
 }
 
 // A bound on the number of fillers of a role that have a literal, and its side: at least so many, or at most.
-#[derive(Drop)]
+#[derive(Clone, Copy)]
 pub struct Count {
     pub role: RoleNo,
     pub literal: u8,
@@ -31,7 +31,7 @@ pub struct Count {
 }
 
 // The concept of an entry. An "at least" holds its count, with the lower side; with the upper one that case is the complement's, an "at most".
-#[derive(Drop)]
+#[derive(Clone, Copy)]
 pub enum Concept {
     Top,
     Name,
@@ -42,13 +42,13 @@ pub enum Concept {
 
 // The concept of a literal: an entry's own, or the complement of one. The complement of "at least n" counts too, from the
 // other side: at most n - 1.
-#[derive(Drop)]
+#[derive(Clone, Copy)]
 pub enum LiteralConcept {
     Is(Concept),
     Not(Concept),
 }
 
-#[derive(Drop)]
+#[derive(Clone, Copy)]
 pub struct Fields {
     pub kind: u8,
     pub role: u8,
