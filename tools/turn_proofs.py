@@ -41,7 +41,7 @@ def chunks(text):
 
 class Function:
     def __init__(self, crate, path, names):
-        self.crate, self.path, self.said, self.whole = crate, path, [], set()
+        self.crate, self.path, self.said, self.whole, self.lemmas = crate, path, [], set(), {}
         self.names = names
         self.parent = {it[0]: it[1] for it in names["places"]}
         self.field = {it[0]: it[2] for it in names["places"]}
@@ -51,63 +51,53 @@ class Function:
     def say(self, text):
         self.said.append(f"{self.crate}/{self.path}: {text}")
 
-    def fact(self, place, steps, field, rest):
-        """The new path of `c.before.. .field rest` at a place."""
+    def above(self, place, steps):
         for _ in range(steps):
             place = self.parent.get(place) or place
-        if field == "args":
-            return field
-        if place is None:
-            return None
-        at = place
-        if field is None:
-            return self.new_place.get(at)
-        own = self.field[at]
-        path = rest.strip(".").split(".") if rest else []
+        return place
+
+    def fact(self, place, field, path):
+        """The new path of an old one from a place: a step's name tells it, however many steps lie between."""
         plain = lambda it: it.lower().replace("_", "-").removesuffix("-lem")
-        # what a pattern binds, and what it says of the value
-        for step, _, fields in [self.arm[at]] if self.arm.get(at) else []:
-            for new, old, way in sorted(fields, key=lambda it: -len(it[2])):
-                if plain(old) == plain(field) and path[: len(way)] == way:
-                    return ".".join([step, new, *path[len(way) :]]), True
-        if at == "Start" or self.parent[at] is None:
-            return field
-        if plain(own[0]) == plain(field):
-            return own[1]
-        if place == "Start":
-            return field
-        # a field of the start or of a place above, which the chain named without its way
+        if field == "args":
+            return ".".join(["args", *(re.sub(r"^t\d$", "t", it) if not i else it for i, it in enumerate(path))])
+        at = place
         while at is not None:
+            # what a pattern binds, and what it says of the value
+            for step, _, fields in [self.arm[at]] if self.arm.get(at) else []:
+                for new, old, way in sorted(fields, key=lambda it: -len(it[2])):
+                    if plain(old) == plain(field) and path[: len(way)] == way:
+                        return ".".join([step, new, *path[len(way) :]])
             if plain(self.field[at][0]) == plain(field):
-                return self.field[at][1]
+                return ".".join([self.field[at][1], *path])
             at = self.parent[at]
-        return field
+        return None
 
     def body(self, text, var, place, goal):
         # a name for the facts of an earlier step is written out, since the steps lie side by side now
         while at := re.search(rf"let (\w+) = ({var}(?:\.before)*) in\s*", text):
             text = text[: at.start()] + re.sub(rf"(?<![\w.'-]){at[1]}(?![\w'-])", at[2], text[at.end() :])
         def one(m):
-            steps = m[1].count(".before")
-            field, rest = m[2], m[3] or ""
-            new = self.fact(place, steps, field, rest)
-            if new is None:
+            path = m[3].strip(".").split(".") if m[3] else []
+            new = self.fact(place, m[2], path)
+            if new is None and m[2] not in ("requires", "ranges", "auto", "type_inv", "well_formed", "lifetimes"):
                 self.say(f"{goal}: {m[0]} leads nowhere")
-                return m[0]
-            if isinstance(new, tuple):
-                return f"{var}.{new[0]}"
-            return f"{var}.{new}{rest}"
+            return f"{var}.{new or m[2] + (m[3] or '')}"
 
         text = re.sub(rf"(?<![\w.'-]){var}((?:\.before)*)\.(?!before\b)({NAME})((?:\.{NAME})*)", one, text)
 
         def whole(m):
-            new = self.fact(place, m[1].count(".before"), None, "")
+            before = re.search(rf"({NAME}) $", text[: m.start()])
+            new = self.lemmas.get(before[1]) if before else None
+            new = new or self.new_place.get(self.above(place, m[1].count(".before")))
             if not goal:
                 self.say(f"a fact of {place} is passed whole: {m[0]}")
                 return m[0]
             self.whole.add(new)
             return f"(goal.at.{goal} {var}).{new}"
 
+        for it in re.findall(rf"let (\w+) = {var}\.args in", text):
+            text = re.sub(rf"\b{it}\.t\d\b", f"{it}.t", text)
         return re.sub(rf"(?<![\w.'-]){var}((?:\.before)*)(?![\w.'-])", whole, text)
 
 
@@ -220,7 +210,12 @@ def turn(crate, path, folder, names):
         else:
             at = re.search(rf"\((\S+) : tie\.(\S+?)(?: invariant-\S+ decreases-\S+)*\)", kind)
             if at:
-                place = at[2]
+                place = next((it for it in fn.field if re.sub("_", "-", it) == re.sub("_", "-", at[2])), None)
+                if place is None:
+                    fn.say(f"{name}: no place {at[2]}")
+                    bodies.append("\n".join([*notes, f"{name} : {kind}", text]))
+                    continue
+                fn.lemmas[name] = fn.new_place[place]
                 kind = kind.replace(at[0], f"({at[1]} : {fn.new_place.get(place, place)})")
                 kind = fn.body(kind, at[1], place, "")
                 kind = re.sub(rf"\({at[1]} : ", f"({at[1]} : ", kind)
