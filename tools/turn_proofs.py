@@ -145,7 +145,8 @@ def turn(crate, path, folder, names):
         if not at:
             fn.say(f"not read: {code[0][:80]}")
             continue
-        parsed.append((at[1], at[2], notes, code))
+        k = next((i for i, it in enumerate(code) if i and re.match(rf"unfolding |{re.escape(at[1])}(?: |$)", it)), 1)
+        parsed.append((at[1], "\n".join([at[2], *code[1:k]]), notes, code[k - 1 :]))
     of_needs = [name for name, kind, _, _ in parsed if kind.startswith("tie.Need-")]
     # the last lines hand the answers over in the order of the goals
     last = "\n".join(found[-1]).partition("tie.spec")[2]
