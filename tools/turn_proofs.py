@@ -58,7 +58,7 @@ class Function:
 
     def fact(self, place, field, path):
         """The new path of an old one from a place: a step's name tells it, however many steps lie between."""
-        plain = lambda it: it.lower().replace("_", "-").removesuffix("-lem")
+        plain = lambda it: re.sub(r"(?<![a-z])Is-?(?=[A-Z])", "", it).lower().replace("_", "-").removesuffix("-lem")
         if field == "args":
             return ".".join(["args", *(re.sub(r"^t\d$", "t", it) if not i else it for i, it in enumerate(path))])
         at = place
@@ -280,7 +280,7 @@ def main(crates):
         shutil.rmtree(out, ignore_errors=True)
         said = subprocess.run(["rt", "check", "--generated", out, "--old-names"], cwd=where, stdout=subprocess.PIPE, stderr=subprocess.STDOUT, text=True).stdout
         if not os.path.isfile(f"{out}/names.json"):
-            print(said[-3000:])
+            print("\n".join(it for it in said.split("\n") if "error" in it)[-3000:])
             raise SystemExit(f"{crate}: no names")
         with open(f"{out}/names.json", encoding="utf-8") as it:
             names = json.load(it)
