@@ -1,7 +1,8 @@
 use Prim.Native.Nat.{ℕ, ◌-◌, ◌<◌, ◌≤◌}
 use mathlib.Core.Path.{◌≡◌, refl, ◌∙◌, ap}
 use Rattle.parts.specs.Filling.{FilledBy, filled_none, filled_more}
-use Rattle.rows.specs.HeldRows.{held_at, first_held}
+use Rattle.rows.specs.HeldRows.{held_at}
+use Rattle.rows.proofs.HeldRows.{first_held}
 use Rattle.list_leaf.specs.Leaf.{no_limit}
 use Rattle.list_tree.specs.TreeSteps.{row_limit}
 use Rattle.list_tree.specs.HeldLaws.{limits_rows}
