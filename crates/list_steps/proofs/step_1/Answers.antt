@@ -22,3 +22,23 @@ returns-then-not-in_label c = let g = c.args in
     (sym c.entry_in.ensures ∙ c.if-not-entry_in.false))
     (follows_1 g.cs.now [] (λ j. 0) g.i (value_of g.x) g.l (opposed g.l) false _ (refl)
     (sym c.in_label.ensures ∙ c.if-not-in_label.true) (refl))
+
+pub returns-then-not-in_label-2 : goal.returns-then-not-in_label-2
+returns-then-not-in_label-2 c = let g = c.args in
+    named_17 (without_roles g.cs.now []) (λ j. 0) g.i (value_of g.x) (contradiction (literal g.l))
+    (cite_1 g.cs.now [] (λ j. 0) g.i (value_of g.x) g.l true
+    (sym c.entry_in.ensures ∙ c.if-not-entry_in.false))
+    (follows_1 g.cs.now [] (λ j. 0) g.i (value_of g.x) g.l c.opposite.result true false
+    c.opposite.ensures
+    (sym c.in_label.ensures ∙ c.if-not-in_label.false)
+    (sym c.in_label-2.ensures ∙ c.if-not-in_label-2.true))
+
+pub returns : goal.returns
+returns c = let g = c.args in
+    named_fine (without_roles g.cs.now []) (λ j. 0) g.i (value_of g.x) (contradiction (literal g.l))
+    (cite_1 g.cs.now [] (λ j. 0) g.i (value_of g.x) g.l true
+    (sym c.entry_in.ensures ∙ c.if-not-entry_in.false))
+    (follows_1 g.cs.now [] (λ j. 0) g.i (value_of g.x) g.l c.opposite.result true true
+    c.opposite.ensures
+    (sym c.in_label.ensures ∙ c.if-not-in_label.false)
+    (sym c.in_label-2.ensures ∙ c.if-not-in_label-2.false))

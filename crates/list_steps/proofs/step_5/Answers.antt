@@ -50,3 +50,24 @@ returns c = let g = c.args in let f = is_earlier g.i g.c _ _
     h.0) (follows_5 g.cs.now [] (label_of g.f g.s.now) g.i (value_of g.x) g.e.0 g.c g.d _ _ true true f.1
     h.1 (sym c.within_case.ensures ∙ c.if-not-within_case.false)
     (sym c.within_case-2.ensures ∙ c.if-not-within_case-2.false))
+
+pub returns-in_default-other : goal.returns-in_default-other
+returns-in_default-other c = let g = c.args in
+    let f = is_earlier g.i g.c _ _ c.look_up-found.ensures.0
+    c.in-Earlier.is in
+    named_16 (without_roles g.cs.now []) (label_of g.f g.s.now) g.i (value_of g.x) (case_split g.e.0 g.c g.d)
+    (cite_5 g.cs.now [] (label_of g.f g.s.now) g.i (value_of g.x) g.e.0 g.c g.d true true false
+    (sym c.entry_in.ensures ∙ c.if-not-entry_in.false) f.0
+    (is_bad g.i g.d _ c.look_up-other.ensures.0 c.in_default-other.is))
+
+pub returns-then-not-within_case : goal.returns-then-not-within_case
+returns-then-not-within_case c = let g = c.args in let f = is_earlier g.i g.c _ _
+    c.look_up-found.ensures.0
+    c.in-Earlier.is in
+    let h = is_earlier g.i g.d _ _ c.look_up-other.ensures.0
+    c.in-Earlier-other.is in
+    named_17 (without_roles g.cs.now []) (label_of g.f g.s.now) g.i (value_of g.x) (case_split g.e.0 g.c g.d)
+    (cite_5 g.cs.now [] (label_of g.f g.s.now) g.i (value_of g.x) g.e.0 g.c g.d true true true
+    (sym c.entry_in.ensures ∙ c.if-not-entry_in.false) f.0 h.0)
+    (follows_5 g.cs.now [] (label_of g.f g.s.now) g.i (value_of g.x) g.e.0 g.c g.d _ _ false _ f.1 h.1
+    (sym c.within_case.ensures ∙ c.if-not-within_case.true) (refl))

@@ -25,3 +25,11 @@ returns-then-not-below c = let g = c.args in
 pub test_named-requires : goal.test_named-requires
 test_named-requires c = let g = c.args in
     sym (c.step_form.ensures g.f.marks) ∙ c.if-not-step_form.false
+
+pub returns : goal.returns
+returns c = let g = c.args in
+    let few = label_few g.x (search rules) (search rules) in
+    let w = table_wide g.cs.now (value_of g.x) _ few c.entry_count.ensures.0 in
+    c.test_named.ensures ∙ label_on (without_roles g.cs.now g.qs.now) (label_of g.f g.s.now) g.i (value_of g.x)
+    (step_in g.f.marks g.ds.now)
+    (sym (c.step_form.ensures g.f.marks) ∙ c.if-not-step_form.false) (sym w ∙ sym c.below.ensures ∙ c.if-not-below.false)
