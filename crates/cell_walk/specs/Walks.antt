@@ -1,12 +1,11 @@
 -- The roles of a counting step's cells, kept from one cell to the next, and the count that is kept with them (02, job 3; FORMAT 6).
 -- Row i counts the fillers of cell c where c has bit i; cell 0 is in no row. `above` has for each of six rows the roles that it gives
 -- to its cells: its own and all above it.
-use Rattle.std.specs.Prelude.{ℕ, zero, suc, ◌+◌, ◌^◌, ◌<◌, ◌≡◌, refl, Bool, true, false, cond, not, ◌&&◌, List, leb, ltb, length, get_or}
-use Rattle.std.proofs.Common.{◌∙◌, ap, arith}
+use Rattle.std.specs.Prelude.{ℕ, zero, suc, ◌+◌, ◌^◌, ◌<◌, ◌≡◌, Bool, true, false, cond, not, ◌&&◌, List, leb, ltb, length, get_or}
 use Rattle.std.specs.Int.Bits.{bit_or}
 use Rattle.logic.specs.Tests.{So}
 use Rattle.logic.specs.Bounded.{all_below, any_below}
-use Rattle.logic.specs.Sums.{sum_below, count_below}
+use Rattle.logic.specs.Sums.{count_below}
 use Rattle.logic.specs.Sets.{has}
 
 -- ---- the rows that change
@@ -62,13 +61,3 @@ pub record Tally (k : ℕ) (p : ℕ → Bool) (fine : Bool) (cells changes : ℕ
   pub here : fine ≡ all_below (cells + 1) p
   pub inside : cells < 2 ^ k
   pub whole : fine ≡ true → cells + 1 ≡ 2 ^ k
-
--- all cells of six rows: 120 come in or go out in 63 cells
-pub after_63 : changes_up_to 63 ≡ 120
-unfolding changes_up_to changes_to has sum_below
-after_63 = refl
-
-pub six_rows : (k : ℕ) (p : ℕ → Bool) (fine : Bool) (cells changes : ℕ) → Tally k p fine cells changes → k ≡ 6 → fine ≡ true
-    → (cells ≡ 63) × (changes ≡ 120)
-six_rows k p fine cells changes T e f = let z : cells ≡ 63 = omega (arith, T.whole f ∙ ap (λ k. 2 ^ k) e) in
-    (z, T.count ∙ ap changes_up_to z ∙ after_63)

@@ -1,3 +1,0 @@
-mod Thin
-mod Fields
-mod Asked
