@@ -48,6 +48,22 @@ class Function:
         self.new_place = dict(zip([it[0] for it in names["places"]], names["places_by_name"]))
         self.arm = dict(zip([it[0] for it in names["places"]], names["arms"]))
 
+    def parameter(self, name):
+        """An array by value went by its place among the parameters."""
+        of = self.path.split(".")[-1].removeprefix("+")
+        if not re.fullmatch(r"t\d", name):
+            return name
+        for folder, _, files in os.walk(f"crates/{self.crate}/src"):
+            for it in files:
+                with open(f"{folder}/{it}", encoding="utf-8") as file:
+                    at = re.search(rf"\bfn {of}\b[^(]*\(([^)]*)\)", file.read())
+                if at:
+                    given = [each.split(":")[0].strip().removeprefix("mut ") for each in at[1].split(",") if each.strip()]
+                    if name in given:
+                        return name
+                    return given[int(name[1:]) - 1] if int(name[1:]) <= len(given) else name
+        return name
+
     def say(self, text):
         self.said.append(f"{self.crate}/{self.path}: {text}")
 
@@ -60,7 +76,7 @@ class Function:
         """The new path of an old one from a place: a step's name tells it, however many steps lie between."""
         plain = lambda it: re.sub(r"(?<![a-z])Is-?(?=[A-Z])", "", it).lower().replace("_", "-").removesuffix("-lem")
         if field == "args":
-            return ".".join(["args", *(re.sub(r"^t\d$", "t", it) if not i else it for i, it in enumerate(path))])
+            return ".".join(["args", *(self.parameter(it) if not i else it for i, it in enumerate(path))])
         at = place
         while at is not None:
             # what a pattern binds, and what it says of the value
@@ -97,7 +113,7 @@ class Function:
             return f"(goal.at.{goal} {var}).{new}"
 
         for it in re.findall(rf"let (\w+) = {var}\.args in", text):
-            text = re.sub(rf"\b{it}\.t\d\b", f"{it}.t", text)
+            text = re.sub(rf"\b{it}\.(t\d)\b", lambda m: f"{it}.{self.parameter(m[1])}", text)
         return re.sub(rf"(?<![\w.'-]){var}((?:\.before)*)(?![\w.'-])", whole, text)
 
 
