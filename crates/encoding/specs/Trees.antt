@@ -49,7 +49,7 @@ module _ (s : List ℕ) where
   at_leaf : (left at : ℕ) (ms : List ℕ) → Stands s at (0 ∷ ms) → tree_in s left (length ms) at ≡ leaf_in s (length ms) at (at + 1 + length ms)
   unfolding tree_in node_in
   at_leaf left at ms h = let a : at < length s = omega (arith, h.inside) in let b : at + 1 + length ms ≤ length s = omega (arith, h.inside) in
-      elim left [
+      elim left as (λ left. tree_in s left (length ms) at ≡ leaf_in s (length ms) at (at + 1 + length ms)) [
         | zero ↦ rw (lt-ltb _ _ a, byte 0 ms h, le-leb _ _ b) refl
         | suc k ↦ rw (lt-ltb _ _ a, byte 0 ms h, le-leb _ _ b) refl
       ]

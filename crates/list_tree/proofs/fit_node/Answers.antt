@@ -1,0 +1,56 @@
+use mathlib.Core.Bool.{true, false}
+use Prim.Native.Nat.{◌+◌, ◌≤◌}
+use mathlib.Core.Path.{◌≡◌, ◌∙◌, sym}
+use native.Mathlib.Omega.{arith}
+use lib.ListN.{length}
+use Rattle.parts.specs.Numbers.{byte_at, num2}
+use Rattle.list_form.specs.FormSteps.{leaf_room, split_room}
+use Rattle.list_leaf.specs.Leaf.{limits_held, marked}
+use Rattle.list_tree.specs.TreeLaws.{fit_leaf, fit_split, fit_off, fit_told, split_among}
+use Rattle.list_tree.specs.HeldLaws.{leaf_part}
+use Rattle.list_tree.proofs.fit_node.Goals.{In-Leaf}
+use Rattle.list_tree.proofs.fit_node.Goals as goal
+
+-- a leaf's bytes are there
+room : (c : In-Leaf) → (c.in-Leaf.end ≡ c.args.at + 1 + c.args.n)
+    × (c.in-Leaf.end ≤ length c.args.ds.now)
+room c = let a = c.args in
+    leaf_room a.ds.now a.n a.at c.in-Leaf.end (sym c.in-Leaf.is ∙ c.read_node-node.ensures.0)
+
+pub overflow_add-at : goal.overflow_add-at
+overflow_add-at c = let r = room (goal.at.overflow_add-at c).In-Leaf in omega arith
+
+pub slice_bounds-leaf_closes-count : goal.slice_bounds-leaf_closes-count
+slice_bounds-leaf_closes-count c = let r = room (goal.at.slice_bounds-leaf_closes-count c).In-Leaf in omega arith
+
+pub slice_bounds-leaf_closes-start : goal.slice_bounds-leaf_closes-start
+slice_bounds-leaf_closes-start c = let r = room (goal.at.slice_bounds-leaf_closes-start c).In-Leaf in omega arith
+
+pub slice_bounds-leaf_closes-end : goal.slice_bounds-leaf_closes-end
+slice_bounds-leaf_closes-end c = let r = room (goal.at.slice_bounds-leaf_closes-end c).In-Leaf in omega arith
+
+pub split_fits-requires : goal.split_fits-requires
+split_fits-requires c = let a = c.args in split_room a.ds.now a.n a.at (sym c.in-Split.is ∙ c.read_node-node.ensures.0)
+
+pub returns-in-Off : goal.returns-in-Off
+returns-in-Off c = let a = c.args in fit_told _ _ (fit_off a.ds.now a.k (marked a.marks.now) a.n (limits_held a.k a.way a.n) a.at (sym c.in-Off.is ∙ c.read_node-node.ensures.0))
+
+pub returns-then-leaf_closes : goal.returns-then-leaf_closes
+returns-then-leaf_closes c = let a = c.args in let r = room (goal.at.returns-then-leaf_closes c).In-Leaf in let f = c.node-1.given in
+    fit_told _ _ (fit_leaf a.ds.now a.k (marked a.marks.now) a.n (limits_held a.k a.way a.n) a.at f.0.0 true (sym f.1 ∙ c.read_node-node.ensures.0)
+    (sym c.if-leaf_closes.true ∙ c.leaf_closes.ensures ∙ leaf_part a.ds.now a.marks.now a.k a.n a.at f.0.0 a.way (omega arith) (omega arith) (omega arith) c.requires.3 r.0 r.1))
+
+pub returns-else-leaf_closes : goal.returns-else-leaf_closes
+returns-else-leaf_closes c = let a = c.args in let r = room (goal.at.returns-else-leaf_closes c).In-Leaf in let f = c.node-1.given in
+    fit_told _ _ (fit_leaf a.ds.now a.k (marked a.marks.now) a.n (limits_held a.k a.way a.n) a.at f.0.0 false (sym f.1 ∙ c.read_node-node.ensures.0)
+    (sym c.if-leaf_closes.false ∙ c.leaf_closes.ensures ∙ leaf_part a.ds.now a.marks.now a.k a.n a.at f.0.0 a.way (omega arith) (omega arith) (omega arith) c.requires.3 r.0 r.1))
+
+pub returns-then-split_fits : goal.returns-then-split_fits
+returns-then-split_fits c = let a = c.args in
+    fit_told _ _ (fit_split a.ds.now a.k (marked a.marks.now) a.n (limits_held a.k a.way a.n) a.at true (sym c.in-Split.is ∙ c.read_node-node.ensures.0)
+    (sym c.if-split_fits.true ∙ c.split_fits.ensures ∙ split_among a.k a.marks.now (byte_at a.ds.now (a.at + 1)) (num2 a.ds.now (a.at + 2)) (omega arith) c.requires.3))
+
+pub returns-else-split_fits : goal.returns-else-split_fits
+returns-else-split_fits c = let a = c.args in
+    fit_told _ _ (fit_split a.ds.now a.k (marked a.marks.now) a.n (limits_held a.k a.way a.n) a.at false (sym c.in-Split.is ∙ c.read_node-node.ensures.0)
+    (sym c.if-split_fits.false ∙ c.split_fits.ensures ∙ split_among a.k a.marks.now (byte_at a.ds.now (a.at + 1)) (num2 a.ds.now (a.at + 2)) (omega arith) c.requires.3))

@@ -1,0 +1,48 @@
+use Prim.Native.Nat.{◌+◌, ◌-◌}
+use mathlib.Core.Path.{◌∙◌, sym}
+use lib.ListN.{take, drop}
+use native.Mathlib.Omega.{arith}
+use Rattle.list_leaf.specs.Leaf.{limits_held, marked}
+use Rattle.list_leaf.specs.OpenLaws.{among_made}
+use Rattle.list_tree.specs.TreeLaws.{closed_off, closed_leaf}
+use Rattle.list_tree.specs.HeldLaws.{cells_told, closing_many, closing_cut, closing_told}
+use Rattle.list_tree.proofs.tree_closes.Goals as goal
+
+pub returns-then-k-gt6 : goal.returns-then-k-gt6
+returns-then-k-gt6 c = let a = c.args in closing_many a.rows a.ds.now a.k (omega arith)
+
+pub overflow_sub-start : goal.overflow_sub-start
+overflow_sub-start c = let e = cells_told c.args.k c.cell_count.result (omega arith) c.cell_count.ensures.0 in omega arith
+
+pub returns-then-ds-start : goal.returns-then-ds-start
+returns-then-ds-start c = let a = c.args in let n = c.cell_count in let e = cells_told a.k n.result (omega arith) n.ensures.0 in closing_cut a.rows a.ds.now a.k (omega arith) (omega arith)
+
+pub fit_node-root-requires : goal.fit_node-root-requires
+fit_node-root-requires c = let o = c.open_cells-marks in let l = c.row_limits-way in let b = c.cell_count in let a = c.args in (omega arith, omega arith, omega arith, among_made a.k (take (2 + a.k + (b.result - 1) - (2 + a.k)) (drop (2 + a.k) a.ds.now)) o.result o.ensures.0 o.ensures.1)
+
+pub halves_close-requires : goal.halves_close-requires
+halves_close-requires c = let o = c.open_cells-marks in
+    let l = c.row_limits-way in
+    let b = c.cell_count in
+    let a = c.args in (
+      omega arith,
+      l.ensures.0,
+      among_made a.k (take (2 + a.k + (b.result - 1) - (2 + a.k)) (drop (2 + a.k) a.ds.now)) o.result o.ensures.0
+          o.ensures.1,
+      sym c.in-Splitting.is ∙ c.fit_node-root.ensures.0,
+    )
+
+pub returns-in-Unfit : goal.returns-in-Unfit
+returns-in-Unfit c = let o = c.open_cells-marks in let l = c.row_limits-way in let b = c.cell_count in let a = c.args in let e = cells_told a.k b.result (omega arith) b.ensures.0 in closing_told a.rows a.ds.now a.k l.result _ (0) (omega arith) (omega arith) (omega arith) l.ensures.1 o.result o.ensures.0 o.ensures.1 (closed_off a.ds.now a.k (marked o.result) a.k (limits_held a.k l.result a.k) (2 + a.k + (b.result - 1)) 8 (sym c.in-Unfit.is ∙ c.fit_node-root.ensures.0))
+
+pub returns-in-Closing : goal.returns-in-Closing
+returns-in-Closing c = let o = c.open_cells-marks in let l = c.row_limits-way in let b = c.cell_count in let a = c.args in let e = cells_told a.k b.result (omega arith) b.ensures.0 in closing_told a.rows a.ds.now a.k l.result _ c.in-Closing.end (omega arith) (omega arith) (omega arith) l.ensures.1 o.result o.ensures.0 o.ensures.1 (closed_leaf a.ds.now a.k (marked o.result) a.k (limits_held a.k l.result a.k) (2 + a.k + (b.result - 1)) 8 c.in-Closing.end (sym c.in-Closing.is ∙ c.fit_node-root.ensures.0))
+
+pub returns-in-Splitting : goal.returns-in-Splitting
+returns-in-Splitting c = let o = c.open_cells-marks in
+    let l = c.row_limits-way in
+    let b = c.cell_count in
+    let a = c.args in
+    let e = cells_told a.k b.result (omega arith) b.ensures.0 in
+    closing_told a.rows a.ds.now a.k l.result _ c.halves_close.result (omega arith) (omega arith) (omega arith)
+    l.ensures.1 o.result o.ensures.0 o.ensures.1 c.halves_close.ensures
