@@ -36,14 +36,14 @@ pub returns-in-Off : goal.returns-in-Off
 returns-in-Off c = let a = c.args in fit_told _ _ (fit_off a.ds.now a.k (marked a.marks.now) a.n (limits_held a.k a.way a.n) a.at (sym c.in-Off.is ∙ c.read_node-node.ensures.0))
 
 pub returns-then-leaf_closes : goal.returns-then-leaf_closes
-returns-then-leaf_closes c = let a = c.args in let r = room (goal.at.returns-then-leaf_closes c).In-Leaf in let f = c.node-1.given in
-    fit_told _ _ (fit_leaf a.ds.now a.k (marked a.marks.now) a.n (limits_held a.k a.way a.n) a.at f.0.0 true (sym f.1 ∙ c.read_node-node.ensures.0)
-    (sym c.if-leaf_closes.true ∙ c.leaf_closes.ensures ∙ leaf_part a.ds.now a.marks.now a.k a.n a.at f.0.0 a.way (omega arith) (omega arith) (omega arith) c.requires.3 r.0 r.1))
+returns-then-leaf_closes c = let a = c.args in let r = room (goal.at.returns-then-leaf_closes c).In-Leaf in
+    fit_told _ _ (fit_leaf a.ds.now a.k (marked a.marks.now) a.n (limits_held a.k a.way a.n) a.at c.in-Leaf.end true (sym c.in-Leaf.is ∙ c.read_node-node.ensures.0)
+    (sym c.if-leaf_closes.true ∙ c.leaf_closes.ensures ∙ leaf_part a.ds.now a.marks.now a.k a.n a.at c.in-Leaf.end a.way (omega arith) (omega arith) (omega arith) c.requires.3 r.0 r.1))
 
 pub returns-else-leaf_closes : goal.returns-else-leaf_closes
-returns-else-leaf_closes c = let a = c.args in let r = room (goal.at.returns-else-leaf_closes c).In-Leaf in let f = c.node-1.given in
-    fit_told _ _ (fit_leaf a.ds.now a.k (marked a.marks.now) a.n (limits_held a.k a.way a.n) a.at f.0.0 false (sym f.1 ∙ c.read_node-node.ensures.0)
-    (sym c.if-leaf_closes.false ∙ c.leaf_closes.ensures ∙ leaf_part a.ds.now a.marks.now a.k a.n a.at f.0.0 a.way (omega arith) (omega arith) (omega arith) c.requires.3 r.0 r.1))
+returns-else-leaf_closes c = let a = c.args in let r = room (goal.at.returns-else-leaf_closes c).In-Leaf in
+    fit_told _ _ (fit_leaf a.ds.now a.k (marked a.marks.now) a.n (limits_held a.k a.way a.n) a.at c.in-Leaf.end false (sym c.in-Leaf.is ∙ c.read_node-node.ensures.0)
+    (sym c.if-leaf_closes.false ∙ c.leaf_closes.ensures ∙ leaf_part a.ds.now a.marks.now a.k a.n a.at c.in-Leaf.end a.way (omega arith) (omega arith) (omega arith) c.requires.3 r.0 r.1))
 
 pub returns-then-split_fits : goal.returns-then-split_fits
 returns-then-split_fits c = let a = c.args in
