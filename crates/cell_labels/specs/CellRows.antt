@@ -14,18 +14,18 @@ use Rattle.labels.specs.Labels.{label_with, value_of, no_label}
 use Rattle.labels.specs.declared.Label.{Label}
 use Rattle.description.specs.Literals.{literal, opposite, code, code_literal}
 use Rattle.description.specs.Descriptions.{Fields, entry_from, entry_of_fields}
-use Rattle.tables.specs.Tables.{fields_at}
+use Rattle.tables.specs.Tables.{fields_at, entry_count}
 use Rattle.tables.specs.Concepts.{fields_struct, concept_of, concept_at}
 use Rattle.tables.specs.declared.Fields as Code
 use Rattle.tables.specs.declared.Concept.{Concept}
 use Rattle.tables.specs.declared.Concept.TheVariants.{Every}
 use Rattle.tables.specs.declared.RoleNo.{RoleNo}
-use Rattle.tables.specs.Tables.{entry_count}
 use Rattle.sources.specs.Sources.{carried}
 use Rattle.refutation.specs.Cells.{Row}
 use Rattle.roles.specs.Disjoint.{role_bit}
 use Rattle.rows.specs.declared.Row as Held
-use Rattle.rows.specs.HeldRows.{given, held_at, first_at, no_row, at_held}
+use Rattle.rows.specs.HeldRows.{given, held_at, first_at, no_row}
+use Rattle.rows.proofs.HeldRows.{at_held}
 use Rattle.cell_labels.specs.CellShows.{room, every_shows, carried_at, passes, in_room, Puts}
 use Rattle.cell_labels.specs.CellLaws.{puts_nothing, puts_more, put_set, is_every↔, every_of, every_read}
 

@@ -17,7 +17,7 @@ use Rattle.logic.specs.Refusals.{Refusal, unless, refuse}
 use Rattle.description.specs.Literals.{Literal, pos, neg, literal, code, code_literal, literal_code, members, adding, opposite}
 use Rattle.description.specs.Descriptions.{Entry, top, name, both, every, at_least, Description, entry_of_fields, is_both}
 use Rattle.parts.specs.Numbers.{byte_at, up_to, up_to_all, up_to_most}
-use Rattle.tables.specs.Tables.{fields_at}
+use Rattle.tables.specs.Tables.{fields_at, entry_count}
 use Rattle.tables.specs.Concepts.{concept_of, concept_at}
 use Rattle.tables.specs.declared.Concept.{Concept}
 use Rattle.tables.specs.declared.Concept.TheVariants.{Top, Name, Both, Every, AtLeast}
@@ -28,9 +28,9 @@ use Rattle.answers.specs.declared.Tested.TheVariants.{Fine, Refused}
 use Rattle.answers.specs.Answers.{refusal_of}
 use Rattle.labels.specs.Labels.{most_entries, most_literals}
 use Rattle.nodes.specs.NodeSteps.{opposed}
-use Rattle.tables.specs.Tables.{entry_count}
 use Rattle.cites.specs.Cites.{of_entry, named_refusal}
-use Rattle.rows.specs.HeldRows.{without_roles, row_same}
+use Rattle.rows.specs.HeldRows.{without_roles}
+use Rattle.rows.proofs.HeldRows.{row_same}
 use Rattle.list_rows.specs.RowSteps.{count_of, rows_refusal, half_is}
 use Rattle.list_form.specs.ListForm.{step_in}
 use Rattle.list_form.specs.FormSteps.{formed}

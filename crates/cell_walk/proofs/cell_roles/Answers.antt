@@ -1,5 +1,5 @@
 use Rattle.std.proofs.Common.{◌∙◌, arith}
-use Rattle.cell_walk.specs.WalkLaws.{from_all}
+use Rattle.cell_walk.proofs.WalkLaws.{from_all}
 use Rattle.cell_walk.proofs.cell_roles.Goals as goal
 
 pub returns-clause-roles : goal.returns-clause-roles

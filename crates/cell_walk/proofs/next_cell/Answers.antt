@@ -3,7 +3,7 @@ use mathlib.Core.Path.{◌≡◌, subst}
 use native.Mathlib.Omega.{arith}
 use lib.ListN.{length}
 use Rattle.cell_walk.specs.Walks.{CorrectedAt, Corrected}
-use Rattle.cell_walk.specs.WalkLaws.{rows_up, correct_start, correct_more, correct_done, walk_on}
+use Rattle.cell_walk.proofs.WalkLaws.{rows_up, correct_start, correct_more, correct_done, walk_on}
 use Rattle.cell_walk.proofs.next_cell.Goals as goal
 
 pub loop-i-init : goal.loop-i-init

@@ -2,7 +2,8 @@ use Prim.Native.Nat.{◌+◌, ◌-◌, ◌≤◌}
 use mathlib.Core.Path.{◌≡◌}
 use lib.ListN.{length}
 use Rattle.cell_walk.specs.Walks.{CorrectedAt}
-use Rattle.cell_walk.specs.WalkLaws.{FirstChange, rows_up}
+use Rattle.cell_walk.specs.WalkLaws.{FirstChange}
+use Rattle.cell_walk.proofs.WalkLaws.{rows_up}
 use Rattle.cell_walk.proofs.next_cell.Given as goal
 
 abbrev pub invariant-loop-i : goal.invariant-loop-i

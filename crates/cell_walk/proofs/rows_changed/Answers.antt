@@ -5,7 +5,7 @@ use borrow.Author.Rules.{rules}
 use Rattle.logic.specs.Tests.{So}
 use Rattle.logic.specs.Bounded.{up_to_lem}
 use Rattle.logic.specs.Sets.{has}
-use Rattle.cell_walk.specs.WalkLaws.{first_change, row_out, all_in}
+use Rattle.cell_walk.proofs.WalkLaws.{first_change, row_out, all_in}
 use Rattle.cell_walk.proofs.rows_changed.Goals as goal
 
 pub loop-i-init : goal.loop-i-init

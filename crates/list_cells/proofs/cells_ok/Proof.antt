@@ -1,4 +1,4 @@
-use Rattle.cell_walk.specs.WalkLaws.{tally_fine}
+use Rattle.cell_walk.proofs.WalkLaws.{tally_fine}
 use Rattle.list_cells.specs.CellSteps.{cells_code}
 use borrow.Author.Rules.{rules}
 use Rattle.list_cells.proofs.cells_ok.Statement.{statement}

@@ -12,7 +12,7 @@ use Rattle.labels.specs.Labels.{value_of}
 use Rattle.evidence.specs.Evidence.{label_of}
 use Rattle.rows.specs.HeldRows.{rows_held}
 use Rattle.cell_walk.specs.Walks.{changes_up_to, Walked}
-use Rattle.cell_walk.specs.WalkLaws.{count_start, few_changes, all_next, tally_as, walk_start}
+use Rattle.cell_walk.proofs.WalkLaws.{count_start, few_changes, all_next, tally_as, walk_start}
 use Rattle.list_cells.specs.CellSteps.{cell_fine}
 use Rattle.list_cells.specs.CellAnswers.{gathered_on, no_cell, cell_at_lem}
 use Rattle.list_cells.specs.CellGathered.{cell_told}

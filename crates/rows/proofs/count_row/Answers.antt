@@ -1,5 +1,6 @@
 use mathlib.Core.Path.{sym, ◌∙◌, ap}
-use Rattle.rows.specs.HeldRows.{count_row, count_few, count_made}
+use Rattle.rows.specs.HeldRows.{count_row}
+use Rattle.rows.proofs.HeldRows.{count_few, count_made}
 use Rattle.rows.proofs.count_row.Goals as goal
 
 pub narrow-requires : goal.narrow-requires

@@ -1,5 +1,5 @@
 use mathlib.Core.Path.{◌∙◌}
-use Rattle.rows.specs.HeldRows.{in_row, in_none}
+use Rattle.rows.proofs.HeldRows.{in_row, in_none}
 use Rattle.rows.proofs.row_in.Goals as goal
 
 pub returns-in-Is : goal.returns-in-Is

@@ -1,4 +1,4 @@
-use Rattle.rows.specs.HeldRows.{row_read, bound_few}
+use Rattle.rows.proofs.HeldRows.{row_read, bound_few}
 use Rattle.rows.proofs.row_of.Goals as goal
 
 pub count_row-requires : goal.count_row-requires

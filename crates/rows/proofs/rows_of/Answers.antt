@@ -4,7 +4,8 @@ use mathlib.Core.Path.{◌∙◌}
 use lib.Seq.{get_or-set_other}
 use native.Mathlib.Omega.{arith}
 use Rattle.parts.specs.Filling.{filled_none, filled_more}
-use Rattle.rows.specs.HeldRows.{no_row, row_in, rows_held_lem, none_behind, none_held}
+use Rattle.rows.specs.HeldRows.{no_row, row_in}
+use Rattle.rows.proofs.HeldRows.{rows_held_lem, none_behind, none_held}
 use Rattle.rows.proofs.rows_of.Goals as goal
 
 pub loop-i-init : goal.loop-i-init

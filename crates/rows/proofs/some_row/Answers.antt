@@ -1,5 +1,6 @@
 use mathlib.Core.Path.{sym, ◌∙◌, ap}
-use Rattle.rows.specs.HeldRows.{some_row, some_made}
+use Rattle.rows.specs.HeldRows.{some_row}
+use Rattle.rows.proofs.HeldRows.{some_made}
 use Rattle.rows.proofs.some_row.Goals as goal
 
 pub returns-in-Every : goal.returns-in-Every
