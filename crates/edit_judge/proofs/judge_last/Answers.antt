@@ -9,16 +9,16 @@ returns-then-not-distinct_ok c = rw (sym c.simple_ok.ensures ∙ c.if-not-simple
 
 pub returns-then-not-every_at : goal.returns-then-not-every_at
 returns-then-not-every_at c = rw (
-      sym c.simple_ok.ensures ∙ c.if-not-simple_ok.false,
-      sym c.distinct_ok.ensures ∙ c.if-not-distinct_ok.false,
-      sym
-          c.every_at.ensures ∙ c.if-not-every_at.true,
-    ) refl
+  sym c.simple_ok.ensures ∙ c.if-not-simple_ok.false,
+  sym c.distinct_ok.ensures ∙ c.if-not-distinct_ok.false,
+  sym
+      c.every_at.ensures ∙ c.if-not-every_at.true,
+) refl
 
 pub returns : goal.returns
 returns c = rw (
-      sym c.simple_ok.ensures ∙ c.if-not-simple_ok.false,
-      sym c.distinct_ok.ensures ∙ c.if-not-distinct_ok.false,
-      sym
-          c.every_at.ensures ∙ c.if-not-every_at.false,
-    ) refl
+  sym c.simple_ok.ensures ∙ c.if-not-simple_ok.false,
+  sym c.distinct_ok.ensures ∙ c.if-not-distinct_ok.false,
+  sym
+      c.every_at.ensures ∙ c.if-not-every_at.false,
+) refl

@@ -19,19 +19,19 @@ returns-then-not-is_whole c = refused_writes c.args.st.now c.args.buf.now 2 (ome
 
 pub overflow_add-size-2 : goal.overflow_add-size-2
 overflow_add-size-2 c = omega (
-      arith,
-      span_short (3 * c.count_roles-n.result) (drop roles_from c.args.st.now) c.span-rs.result.now c.span-rs.ensures,
-      span_short (6 * c.count_at-e.result) (drop concepts_from c.args.st.now) c.span-cs.result.now c.span-cs.ensures,
-      span_short (1 + c.count_at.result) (drop query_from c.args.st.now) c.span-qs.result.now c.span-qs.ensures,
-    )
+  arith,
+  span_short (3 * c.count_roles-n.result) (drop roles_from c.args.st.now) c.span-rs.result.now c.span-rs.ensures,
+  span_short (6 * c.count_at-e.result) (drop concepts_from c.args.st.now) c.span-cs.result.now c.span-cs.ensures,
+  span_short (1 + c.count_at.result) (drop query_from c.args.st.now) c.span-qs.result.now c.span-qs.ensures,
+)
 
 pub overflow_add-size-3 : goal.overflow_add-size-3
 overflow_add-size-3 c = omega (
-      arith,
-      span_short (3 * c.count_roles-n.result) (drop roles_from c.args.st.now) c.span-rs.result.now c.span-rs.ensures,
-      span_short (6 * c.count_at-e.result) (drop concepts_from c.args.st.now) c.span-cs.result.now c.span-cs.ensures,
-      span_short (1 + c.count_at.result) (drop query_from c.args.st.now) c.span-qs.result.now c.span-qs.ensures,
-    )
+  arith,
+  span_short (3 * c.count_roles-n.result) (drop roles_from c.args.st.now) c.span-rs.result.now c.span-rs.ensures,
+  span_short (6 * c.count_at-e.result) (drop concepts_from c.args.st.now) c.span-cs.result.now c.span-cs.ensures,
+  span_short (1 + c.count_at.result) (drop query_from c.args.st.now) c.span-qs.result.now c.span-qs.ensures,
+)
 
 pub returns-then-buf-size : goal.returns-then-buf-size
 returns-then-buf-size c = refused_writes c.args.st.now c.args.buf.now 22 (omega arith) (omega arith) (λ T rest l. out_short c.args.st.now
@@ -42,15 +42,15 @@ returns-then-buf-size c = refused_writes c.args.st.now c.args.buf.now 22 (omega 
 
 pub lay_description-requires : goal.lay_description-requires
 lay_description-requires c = (
-      omega arith,
-      omega (
-        arith,
-        span_short (3 * c.count_roles-n.result) (drop roles_from c.args.st.now) c.span-rs.result.now
-            c.span-rs.ensures,
-        span_short (6 * c.count_at-e.result) (drop concepts_from c.args.st.now) c.span-cs.result.now c.span-cs.ensures,
-        span_short (1 + c.count_at.result) (drop query_from c.args.st.now) c.span-qs.result.now c.span-qs.ensures,
-      ),
-    )
+  omega arith,
+  omega (
+    arith,
+    span_short (3 * c.count_roles-n.result) (drop roles_from c.args.st.now) c.span-rs.result.now
+        c.span-rs.ensures,
+    span_short (6 * c.count_at-e.result) (drop concepts_from c.args.st.now) c.span-cs.result.now c.span-cs.ensures,
+    span_short (1 + c.count_at.result) (drop query_from c.args.st.now) c.span-qs.result.now c.span-qs.ensures,
+  ),
+)
 
 pub returns : goal.returns
 returns c = rw c.lay_description.ensures (done_writes c.args.st.now c.args.buf.now c.span-rs.result.now c.span-cs.result.now
