@@ -5,7 +5,7 @@ use Rattle.std.proofs.Common.{inl, inr, sym, subst}
 use Rattle.std.proofs.Math.Option.{none}
 use Rattle.logic.specs.Lists.{◌∈◌}
 use Rattle.counting.specs.Rows.{Solves, Fillers}
-use Rattle.counting.specs.Solutions.{fillers}
+use Rattle.counting.proofs.Solutions.{fillers}
 use Rattle.description.specs.Literals.{Literal, entry_of}
 use Rattle.description.specs.Descriptions.{Description, wanted}
 use Rattle.description.specs.Acceptance.{description_refusal, Accepted, accepted↔}

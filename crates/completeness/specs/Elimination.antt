@@ -13,7 +13,7 @@ use Rattle.logic.specs.Sets.{has, set_of}
 use Rattle.logic.specs.SetLaws.{has_set_of, set_of_lt}
 use Rattle.counting.specs.Trees.{Tree, formed, live}
 use Rattle.counting.specs.Rows.{Solves, Closed}
-use Rattle.counting.specs.Solutions.{closed_sound, solved_or_closed}
+use Rattle.counting.proofs.Solutions.{closed_sound, solved_or_closed}
 use Rattle.description.specs.Literals.{Literal, pos, neg, opposite, opposite_opposite, entry_of, entry_of_opposite, Label, plus, plus↔, Within, InTable, literal_same}
 use Rattle.description.specs.Descriptions.{Entry, top, name, both, every, at_least, Description, compatible, compatible↔, if_both}
 use Rattle.description.specs.Acceptance.{Accepted, fields_at_lem}

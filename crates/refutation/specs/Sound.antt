@@ -11,7 +11,7 @@ use Rattle.logic.specs.Sets.{has, set_of}
 use Rattle.logic.specs.SetLaws.{has_set_of, set_of_lt}
 use Rattle.counting.specs.Trees.{Side, lower, upper, Meets}
 use Rattle.counting.specs.Rows.{bound_at, Fillers}
-use Rattle.counting.specs.Solutions.{closed_no_fillers}
+use Rattle.counting.proofs.Solutions.{closed_no_fillers}
 use Rattle.description.specs.Literals.{Literal, pos, neg, opposite, entry_of, same_literal, same_literal_lem, Label, members, plus, Within}
 use Rattle.description.specs.Descriptions.{Entry, top, name, both, every, at_least, Description, Compatible}
 use Rattle.description.specs.Acceptance.{Accepted}
