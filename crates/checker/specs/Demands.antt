@@ -8,7 +8,8 @@ use Rattle.counting.specs.Rows.{Solves, Fillers}
 use Rattle.counting.proofs.Solutions.{fillers}
 use Rattle.description.specs.Literals.{Literal, entry_of}
 use Rattle.description.specs.Descriptions.{Description, wanted}
-use Rattle.description.specs.Acceptance.{description_refusal, Accepted, accepted↔}
+use Rattle.description.specs.Acceptance.{description_refusal, Accepted}
+use Rattle.description.proofs.Acceptance.{accepted↔}
 use Rattle.interpretation.specs.Meaning.{Interpretation}
 use Rattle.interpretation.specs.Models.{Model, Satisfies}
 use Rattle.graph.specs.Graphs.{Graph, GraphLimits, GraphFits, Keeps}

@@ -11,7 +11,8 @@ use Rattle.logic.specs.Sums.{count_below, count_le, count_pos}
 use Rattle.logic.specs.Closure.{closure, closure_base, closure_ind, closure_trans}
 use Rattle.description.specs.Literals.{Literal, pos, neg, opposite, entry_of, Label, entry_of_opposite}
 use Rattle.description.specs.Descriptions.{Entry, top, name, both, every, at_least, Description, Compatible}
-use Rattle.description.specs.Roles.{ancestor, simple, anc_refl, anc_in, anc_trans, parent_anc}
+use Rattle.description.specs.Roles.{ancestor, simple, anc_refl, parent_anc}
+use Rattle.description.proofs.Roles.{anc_in, anc_trans}
 use Rattle.description.specs.Acceptance.{Accepted, fields_at_lem}
 use Rattle.interpretation.specs.Meaning.{Interpretation, meaning, truth, truth_eq, holds}
 use Rattle.interpretation.specs.Models.{Model, Satisfies, opposite_true, both_true, every_true, least_true}

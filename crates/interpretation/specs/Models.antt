@@ -7,7 +7,8 @@ use Rattle.logic.specs.Lists.{◌∈◌}
 use Rattle.logic.specs.Sums.{count_below, count_some}
 use Rattle.description.specs.Literals.{Literal, pos, neg, opposite, Label, plus, plus↔}
 use Rattle.description.specs.Descriptions.{Entry, top, name, both, every, at_least, Description, included, Compatible}
-use Rattle.description.specs.Roles.{ancestor, anc_ind}
+use Rattle.description.specs.Roles.{ancestor}
+use Rattle.description.proofs.Roles.{anc_ind}
 use Rattle.description.specs.Acceptance.{Accepted, first_top}
 use Rattle.interpretation.specs.Meaning.{Interpretation, meaning, truth, truth_eq, holds, holds_opposite}
 
