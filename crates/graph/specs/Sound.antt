@@ -15,7 +15,8 @@ use Rattle.description.specs.Roles.{ancestor, simple, anc_refl, parent_anc}
 use Rattle.description.proofs.Roles.{anc_in, anc_trans}
 use Rattle.description.specs.Acceptance.{Accepted, fields_at_lem}
 use Rattle.interpretation.specs.Meaning.{Interpretation, meaning, truth, truth_eq, holds}
-use Rattle.interpretation.specs.Models.{Model, Satisfies, opposite_true, both_true, every_true, least_true}
+use Rattle.interpretation.specs.Models.{Model, Satisfies, both_true, every_true, least_true}
+use Rattle.interpretation.proofs.Models.{opposite_true}
 use Rattle.graph.specs.Graphs.{Edge, Graph, label_at, edges_at, of_role, total, counted, EdgeOk, Passes, NodeOk, wanted_at, Keeps}
 use Rattle.graph.specs.Line.{copies, direct, pairs, line_with, line}
 use Rattle.graph.specs.Copies.{owner, count_direct, total_at, copies_pos, room}

@@ -16,7 +16,8 @@ use Rattle.description.specs.Literals.{Literal, pos, neg, opposite, entry_of, sa
 use Rattle.description.specs.Descriptions.{Entry, top, name, both, every, at_least, Description, Compatible}
 use Rattle.description.specs.Acceptance.{Accepted}
 use Rattle.interpretation.specs.Meaning.{Interpretation, truth, holds}
-use Rattle.interpretation.specs.Models.{Model, Satisfies, AllTrue, plus_true, opposite_true, role_up, top_true, both_true, every_true, least_true, every_false}
+use Rattle.interpretation.specs.Models.{Model, Satisfies, AllTrue, plus_true, role_up, top_true, both_true, every_true, least_true}
+use Rattle.interpretation.proofs.Models.{opposite_true, every_false}
 use Rattle.refutation.specs.Cells.{Row, positive_row, negative_row, row_of, is_row, row_from, rows_of, row_at, bounds, cell_role, Known, topmost, qualified, denied, passed, onward, length_rows, length_bounds, bound_at_lem, row_at_lem, rows_inside, RowIn}
 use Rattle.refutation.specs.Records.{Cell, unshown, cited, barred, Counting, Step, contradiction, conjunction, disjunction, by_rule, case_split, counting, Refutation, record_at, number_at, cell_at, open_at, is_open, literal_at, CiteOk, StepOk, Cites, in_label, CellFits, CellOk, TreeOk, RecordOk, Closes}
 
