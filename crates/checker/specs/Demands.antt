@@ -13,9 +13,11 @@ use Rattle.description.proofs.Acceptance.{accepted↔}
 use Rattle.interpretation.specs.Meaning.{Interpretation}
 use Rattle.interpretation.specs.Models.{Model, Satisfies}
 use Rattle.graph.specs.Graphs.{Graph, GraphLimits, GraphFits, Keeps}
-use Rattle.graph.specs.GraphTests.{any_graph, graph_refusal, graph↔, lifted_graph↔}
+use Rattle.graph.specs.GraphTests.{any_graph, graph_refusal}
+use Rattle.graph.proofs.GraphTests.{graph↔}
+use Rattle.graph.proofs.LiftedGraph.{lifted_graph↔}
 use Rattle.graph.specs.Line.{line}
-use Rattle.graph.specs.Sound.{graph_sound}
+use Rattle.graph.proofs.Sound.{graph_sound}
 use Rattle.refutation.specs.Cells.{bounds, rows_of}
 use Rattle.refutation.specs.Records.{Refutation, RefutationLimits, RefutationFits, Closes, open_at, Counting}
 use Rattle.refutation.specs.RecordTests.{any_refutation, refutation_refusal, refutation↔, lifted_refutation↔}

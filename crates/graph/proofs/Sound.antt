@@ -19,7 +19,7 @@ use Rattle.interpretation.specs.Models.{Model, Satisfies, both_true, every_true,
 use Rattle.interpretation.proofs.Models.{opposite_true}
 use Rattle.graph.specs.Graphs.{Edge, Graph, label_at, edges_at, of_role, total, counted, EdgeOk, Passes, NodeOk, wanted_at, Keeps}
 use Rattle.graph.specs.Line.{copies, direct, pairs, line_with, line}
-use Rattle.graph.specs.Copies.{owner, count_direct, total_at, copies_pos, room}
+use Rattle.graph.proofs.Copies.{owner, count_direct, total_at, copies_pos, room}
 
 -- ---- the line with K copies of each node, for any K that is enough for the edges between any two
 module _ (D : Description) (A : Accepted D) (W : List Literal) (G : Graph) (g : Keeps D W G) (K : ℕ) (some-copy : 1 ≤ K)
