@@ -11,13 +11,15 @@ use Rattle.logic.specs.Sums.{count_below, count_le, count_pos}
 use Rattle.logic.specs.Closure.{closure, closure_base, closure_ind, closure_trans}
 use Rattle.description.specs.Literals.{Literal, pos, neg, opposite, entry_of, Label, entry_of_opposite}
 use Rattle.description.specs.Descriptions.{Entry, top, name, both, every, at_least, Description, Compatible}
-use Rattle.description.specs.Roles.{ancestor, simple, anc_refl, anc_in, anc_trans, parent_anc}
+use Rattle.description.specs.Roles.{ancestor, simple, anc_refl, parent_anc}
+use Rattle.description.proofs.Roles.{anc_in, anc_trans}
 use Rattle.description.specs.Acceptance.{Accepted, fields_at_lem}
 use Rattle.interpretation.specs.Meaning.{Interpretation, meaning, truth, truth_eq, holds}
-use Rattle.interpretation.specs.Models.{Model, Satisfies, opposite_true, both_true, every_true, least_true}
+use Rattle.interpretation.specs.Models.{Model, Satisfies, both_true, every_true, least_true}
+use Rattle.interpretation.proofs.Models.{opposite_true}
 use Rattle.graph.specs.Graphs.{Edge, Graph, label_at, edges_at, of_role, total, counted, EdgeOk, Passes, NodeOk, wanted_at, Keeps}
 use Rattle.graph.specs.Line.{copies, direct, pairs, line_with, line}
-use Rattle.graph.specs.Copies.{owner, count_direct, total_at, copies_pos, room}
+use Rattle.graph.proofs.Copies.{owner, count_direct, total_at, copies_pos, room}
 
 -- ---- the line with K copies of each node, for any K that is enough for the edges between any two
 module _ (D : Description) (A : Accepted D) (W : List Literal) (G : Graph) (g : Keeps D W G) (K : ℕ) (some-copy : 1 ≤ K)

@@ -8,9 +8,9 @@ use Rattle.logic.specs.Sets.{has, set_of}
 use Rattle.logic.specs.SetLaws.{no_member, set_of_lt, has_set_of, set_of_has}
 use Rattle.counting.specs.Trees.{Side, lower, upper, limit, Tree, live, total, HoldAll, formed}
 use Rattle.counting.specs.Rows.{Bound, MeetAll, Solves, Fillers, limits_from, limits, Closed, lowers}
-use Rattle.counting.specs.TreeLaws.{live↔, tree_sound}
-use Rattle.counting.specs.Small.{lower_of, lowers_of, small}
-use Rattle.counting.specs.Complete.{tree_complete}
+use Rattle.counting.proofs.TreeLaws.{live↔, tree_sound}
+use Rattle.counting.proofs.Small.{lower_of, lowers_of, small}
+use Rattle.counting.proofs.Complete.{tree_complete}
 
 -- ---- the rows as limits
 length_from : (i : ℕ) (rows : List Bound) → length (limits_from i rows) ≡ length rows

@@ -10,8 +10,8 @@ use Rattle.logic.specs.Tests.{So, decide, so_and}
 use Rattle.logic.specs.Lists.{◌∈◌, length_snoc}
 use Rattle.logic.specs.Sums.{only, only_on, sum_at_lem}
 use Rattle.counting.specs.Trees.{lower, upper, Limit, limit, at_most, more_than, Tree, split, live, total, Holds, HoldAll, TreeCloses, formed}
-use Rattle.counting.specs.Small.{lower_of, lowers_of}
-use Rattle.counting.specs.Multipliers.{ClosingTree, Pin, broken_closes}
+use Rattle.counting.proofs.Small.{lower_of, lowers_of}
+use Rattle.counting.proofs.Multipliers.{ClosingTree, Pin, broken_closes}
 
 last : (l : Limit) (ls : List Limit) → l ∈ (ls ++ (l ∷ []))
 last l ls = Memᴰ.append_right ls (Memᴰ.head refl)

@@ -11,7 +11,7 @@ use Rattle.logic.specs.Lists.{◌∈◌}
 use Rattle.logic.specs.Sums.{sum_below, only, only_off, only_zero, only_add, sum_one}
 use Rattle.counting.specs.Trees.{Side, lower, upper, same_side, Meets, Limit, limit, share, price, weight, worth}
 use Rattle.counting.specs.Trees.{Tree, leaf, live, total, TreeCloses, formed}
-use Rattle.counting.specs.TreeLaws.{gap↔, meets_refl, meets_add}
+use Rattle.counting.proofs.TreeLaws.{gap↔, meets_refl, meets_add}
 
 -- ---- lists of multipliers
 plus : List ℕ → List ℕ → List ℕ
