@@ -5,16 +5,19 @@ use Rattle.std.proofs.Common.{inl, inr, sym, subst}
 use Rattle.std.proofs.Math.Option.{none}
 use Rattle.logic.specs.Lists.{◌∈◌}
 use Rattle.counting.specs.Rows.{Solves, Fillers}
-use Rattle.counting.specs.Solutions.{fillers}
+use Rattle.counting.proofs.Solutions.{fillers}
 use Rattle.description.specs.Literals.{Literal, entry_of}
 use Rattle.description.specs.Descriptions.{Description, wanted}
-use Rattle.description.specs.Acceptance.{description_refusal, Accepted, accepted↔}
+use Rattle.description.specs.Acceptance.{description_refusal, Accepted}
+use Rattle.description.proofs.Acceptance.{accepted↔}
 use Rattle.interpretation.specs.Meaning.{Interpretation}
 use Rattle.interpretation.specs.Models.{Model, Satisfies}
 use Rattle.graph.specs.Graphs.{Graph, GraphLimits, GraphFits, Keeps}
-use Rattle.graph.specs.GraphTests.{any_graph, graph_refusal, graph↔, lifted_graph↔}
+use Rattle.graph.specs.GraphTests.{any_graph, graph_refusal}
+use Rattle.graph.proofs.GraphTests.{graph↔}
+use Rattle.graph.proofs.LiftedGraph.{lifted_graph↔}
 use Rattle.graph.specs.Line.{line}
-use Rattle.graph.specs.Sound.{graph_sound}
+use Rattle.graph.proofs.Sound.{graph_sound}
 use Rattle.refutation.specs.Cells.{bounds, rows_of}
 use Rattle.refutation.specs.Records.{Refutation, RefutationLimits, RefutationFits, Closes, open_at, Counting}
 use Rattle.refutation.specs.RecordTests.{any_refutation, refutation_refusal, refutation↔, lifted_refutation↔}

@@ -7,7 +7,7 @@ use Rattle.logic.specs.Tests.{So, decide, so_not, so_false, or_l, or_r, same_tes
 use Rattle.logic.specs.Bounded.{up_to_lem}
 use Rattle.logic.specs.Lists.{◌∈◌, length_snoc, at_snoc_old, at_snoc_new}
 use Rattle.counting.specs.Trees.{Tree, formed}
-use Rattle.counting.specs.TreeLaws.{tree_open}
+use Rattle.counting.proofs.TreeLaws.{tree_open}
 use Rattle.counting.specs.Rows.{Closed, limits}
 use Rattle.description.specs.Literals.{Literal, pos, neg, opposite, code, entry_of, Label, members, plus, Within, InTable, label_of, members_label_of, literal_same}
 use Rattle.description.specs.Descriptions.{both, Description, Compatible}

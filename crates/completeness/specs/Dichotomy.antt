@@ -20,7 +20,7 @@ use Rattle.interpretation.specs.Meaning.{Interpretation}
 use Rattle.interpretation.specs.Models.{Model, Satisfies}
 use Rattle.graph.specs.Graphs.{Edge, Node, Graph, node_at, label_at, edges_at, LabelOk, NodeOk, wanted_at, Keeps}
 use Rattle.graph.specs.Line.{line}
-use Rattle.graph.specs.Sound.{graph_sound}
+use Rattle.graph.proofs.Sound.{graph_sound}
 use Rattle.graph.specs.Relabel.{relabel}
 use Rattle.refutation.specs.Records.{Refutation, number_at, Valid, Closes}
 use Rattle.refutation.specs.Sound.{refutation_sound}

@@ -13,12 +13,13 @@ use Rattle.logic.specs.Sets.{has, set_of}
 use Rattle.logic.specs.SetLaws.{has_set_of, set_of_lt}
 use Rattle.counting.specs.Trees.{Tree, formed, live}
 use Rattle.counting.specs.Rows.{Solves, Closed}
-use Rattle.counting.specs.Solutions.{closed_sound, solved_or_closed}
+use Rattle.counting.proofs.Solutions.{closed_sound, solved_or_closed}
 use Rattle.description.specs.Literals.{Literal, pos, neg, opposite, opposite_opposite, entry_of, entry_of_opposite, Label, plus, plus↔, Within, InTable, literal_same}
 use Rattle.description.specs.Descriptions.{Entry, top, name, both, every, at_least, Description, compatible, compatible↔, if_both}
 use Rattle.description.specs.Acceptance.{Accepted, fields_at_lem}
 use Rattle.graph.specs.Graphs.{Edge, LabelOk, NodeOk}
-use Rattle.graph.specs.GraphTests.{both_test, both↔}
+use Rattle.graph.specs.GraphTests.{both_test}
+use Rattle.graph.proofs.GraphTests.{both↔}
 use Rattle.refutation.specs.Cells.{Row, row_of, is_row, row_from, rows_of, row_at, bounds, RowIn, cell_role, known, known↔, rows_inside, known_in_lem, length_rows, length_bounds, bound_at_lem, row_at_lem}
 use Rattle.completeness.specs.Derivable.{Derivable, derivable_mono, by_contradiction, by_bottom, by_conjunction, by_disjunction, by_rule_lem, by_counting}
 use Rattle.completeness.specs.Types.{chosen, typ, pos_in, neg_in, pos_out, typ_in, typ_full, typ_one, typ_cong, chosen_in, lies, lies↔, resolve}

@@ -14,7 +14,8 @@ use Rattle.counting.specs.Trees.{Side, lower, upper, Meets, live}
 use Rattle.counting.specs.Rows.{Bound, bound_at, Solves}
 use Rattle.description.specs.Literals.{Literal, pos, neg, opposite, entry_of, Label, InTable}
 use Rattle.description.specs.Descriptions.{Entry, top, name, both, every, at_least, Description, Compatible}
-use Rattle.description.specs.Roles.{ancestor, anc_refl, anc_in, anc_trans}
+use Rattle.description.specs.Roles.{ancestor, anc_refl}
+use Rattle.description.proofs.Roles.{anc_in, anc_trans}
 use Rattle.description.specs.Acceptance.{Accepted, fields_at_lem}
 use Rattle.graph.specs.Graphs.{Edge, of_role, total, counted, LabelOk, BothOk, EdgeOk, NodeOk}
 use Rattle.refutation.specs.Cells.{Row, positive_row, negative_row, row_of, is_row, row_from, rows_of, row_at, bounds, RowIn, cell_role, Known, qualified, denied, passed, onward, length_rows, length_bounds, bound_at_lem, row_at_lem}

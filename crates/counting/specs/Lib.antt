@@ -1,8 +1,3 @@
 pub mod Trees
 pub mod Rows
-pub mod TreeLaws
-pub mod Small
-pub mod Multipliers
-pub mod Complete
-pub mod Solutions
 pub mod Examples

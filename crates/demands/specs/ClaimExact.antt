@@ -17,7 +17,7 @@ use Rattle.interpretation.specs.Meaning.{Interpretation}
 use Rattle.interpretation.specs.Models.{Model, Satisfies}
 use Rattle.graph.specs.Graphs.{Graph, Keeps}
 use Rattle.graph.specs.Line.{line}
-use Rattle.graph.specs.Sound.{graph_sound}
+use Rattle.graph.proofs.Sound.{graph_sound}
 use Rattle.refutation.specs.Records.{Refutation, Closes}
 use Rattle.refutation.specs.Sound.{refutation_sound}
 use Rattle.completeness.specs.Dichotomy.{dichotomy, exclusive}

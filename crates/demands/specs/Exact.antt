@@ -8,7 +8,7 @@ use Rattle.interpretation.specs.Meaning.{Interpretation}
 use Rattle.interpretation.specs.Models.{Model, Satisfies}
 use Rattle.graph.specs.Graphs.{Graph}
 use Rattle.graph.specs.Line.{copies, line}
-use Rattle.graph.specs.Sound.{graph_sound}
+use Rattle.graph.proofs.Sound.{graph_sound}
 use Rattle.refutation.specs.Records.{Refutation}
 use Rattle.refutation.specs.Sound.{refutation_sound}
 use Rattle.intake.specs.Intake.{described, AcceptedBytes, accepted_bytes↔}

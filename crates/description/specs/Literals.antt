@@ -1,10 +1,8 @@
 -- Literals, and sets of literals (01, "The description"; FORMAT 2).
-use Rattle.std.specs.Prelude.{ℕ, zero, suc, ◌+◌, ◌*◌, ◌/◌, ◌%◌, ◌^◌, ◌≤◌, ◌<◌, ◌≡◌, refl, ◌↔◌, ◌⊎◌, Bool, true, false, cond, ◌||◌, List, [], ◌∷◌, eqb, ltb}
-use Rattle.std.proofs.Common.{sym, ◌∙◌, ap, subst, inl, inr, arith}
-use mathlib.Core.List.Memᴰ
+use Rattle.std.specs.Prelude.{ℕ, zero, suc, ◌+◌, ◌*◌, ◌/◌, ◌%◌, ◌<◌, ◌≡◌, refl, ◌↔◌, ◌⊎◌, Bool, cond, ◌||◌, List, [], ◌∷◌, eqb}
+use Rattle.std.proofs.Common.{sym, ap, subst, inl, inr, arith}
 use Rattle.std.proofs.Math.Decide.{dec_le}
-use Rattle.logic.specs.Tests.{So, so_eqb, eqb_so, so_false, or_l, or_r, or_cases, same_test, eqb↔}
-use Rattle.logic.specs.Lists.{◌∈◌, each, each↔}
+use Rattle.logic.specs.Tests.{So, so_eqb, eqb_so, or_l, or_r, or_cases, same_test}
 use Rattle.logic.specs.Sets.{has, narrow, within, with, set_of}
 use Rattle.logic.specs.SetLaws.{no_member, narrow↔, within↔, with↔, set_of↔}
 
@@ -133,20 +131,6 @@ members_adding N l m = same_test _ _
 
 pub adding↔ : (N : ℕ) (l m : Literal) → So (members (adding N l) m) ↔ (So (members N m) ⊎ (l ≡ m))
 adding↔ N l m = rw (members_adding N l m) (plus↔ (members N) l m)
-
-pub literal_set↔ : (W : List Literal) (l : Literal) → So (members (literal_set W) l) ↔ (l ∈ W)
-unfolding literal_set
-literal_set↔ [] l = (λ h. absurd (no_literal l h), λ m. elim m [ ])
-literal_set↔ (x ∷ W) l = (
-  λ h. elim ((adding↔ (literal_set W) x l).0 h) [ inl u ↦ Memᴰ.tail ((literal_set↔ W l).0 u) | inr e ↦ Memᴰ.head (sym e) ],
-  λ h. (adding↔ (literal_set W) x l).1 (elim (Memᴰ.cases_cons h) [ inl e ↦ inr (sym e) | inr t ↦ inl ((literal_set↔ W l).1 t) ]),
-)
-
--- a label has every literal of a list exactly if their set lies within it
-pub within_set : (W : List Literal) (N : ℕ) → within (literal_set W) N ≡ each W (members N)
-within_set W N = same_test _ _
-    (λ h. (each↔ W (members N)).1 (λ l m. (within_members↔ (literal_set W) N).0 h l ((literal_set↔ W l).1 m)))
-    (λ h. (within_members↔ (literal_set W) N).1 (λ l u. (each↔ W (members N)).0 h l ((literal_set↔ W l).0 u)))
 
 -- the number of a set of literals of n entries
 unfoldable pub label_of : ℕ → Label → ℕ

@@ -14,7 +14,8 @@ use Rattle.laying.specs.Places.{each_map, Byte, Small, small_more, small_append,
 use Rattle.laying.specs.Numbers.{two, two_bytes}
 use Rattle.description.specs.Literals.{Literal, code, literal, code_literal, code_entry, entry_of}
 use Rattle.description.specs.Descriptions.{Description, Entry, top, name, both, every, at_least, fields_of, same_fields↔}
-use Rattle.description.specs.Acceptance.{EntryOk, entry↔, literal_test}
+use Rattle.description.specs.Acceptance.{EntryOk, literal_test}
+use Rattle.description.proofs.Acceptance.{entry↔}
 use Rattle.labels.specs.Labels.{most_entries}
 use Rattle.intake.specs.Intake.{most_roles}
 use Rattle.editing.specs.Editing.{lone_role, Draft, role_in, fields_in, is_set, root_of, describes, role_form, entry_form, Made}

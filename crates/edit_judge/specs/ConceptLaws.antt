@@ -1,6 +1,6 @@
 -- A concept, put in: its six bytes behind the others, and 4 to 7 of the one new entry.
 use Rattle.std.specs.Prelude.{ℕ, suc, ◌+◌, ◌*◌, ◌%◌, ◌≤◌, ◌<◌, ◌≡◌, refl, Bool, true, false, not, cond, ◌&&◌, List, [], ◌∷◌, ◌++◌, ltb, length, set, take, drop, replicate}
-use Rattle.std.proofs.Common.{sym, ◌∙◌, ap₂, inl, inr, arith, mod-eq_of_lt, lt-ltb, le-ltb}
+use Rattle.std.proofs.Common.{sym, ◌∙◌, ap₂, subst, inl, inr, arith, mod-eq_of_lt, lt-ltb, le-ltb}
 use Rattle.std.proofs.Math.Path.{ap}
 use Rattle.std.proofs.Math.Option.{none, some}
 use Rattle.logic.specs.Tests.{So, so_ltb}
@@ -78,7 +78,7 @@ module _ (T : Draft) (made : Made T) (f : Code.Fields) (room : length T.entries 
   U = put_in T (concept F)
 
   six_are : six_bytes f ≡ entry_bytes F
-  six_are = let w = (fields↔ D n F).0 four in let small : F.number ≤ 1000 = rw w.1 (number_small D n w.0 w.2) in
+  six_are = let w = (fields↔ D n F).0 four in let small : F.number ≤ 1000 = subst (λ x. x.number ≤ 1000) (sym w.1) (number_small D n w.0 w.2) in
       ap (λ a. f.kind ∷ f.role ∷ f.first ∷ f.second ∷ a ∷ f.number % 256 ∷ []) (mod-eq_of_lt (omega (arith, small)))
 
   longer : length U.entries ≡ suc n

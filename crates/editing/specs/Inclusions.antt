@@ -7,7 +7,8 @@ use Rattle.logic.specs.Tests.{So, so_and, and_l, and_r, or_l, or_r, or_cases, so
 use Rattle.logic.specs.Sets.{has, with, set_of}
 use Rattle.logic.specs.SetLaws.{with↔, has_set_of, set_of_cong, or_set_of}
 use Rattle.description.specs.Descriptions.{Description, included}
-use Rattle.description.specs.Roles.{ancestor, anc_refl, parent_anc, anc_ind, anc_trans}
+use Rattle.description.specs.Roles.{ancestor, anc_refl, parent_anc}
+use Rattle.description.proofs.Roles.{anc_ind, anc_trans}
 use Rattle.roles.specs.Ancestors.{joined}
 
 -- every parent bit is of the table

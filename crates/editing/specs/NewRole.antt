@@ -14,8 +14,10 @@ use Rattle.logic.specs.Sets.{has, narrow}
 use Rattle.logic.specs.SetLaws.{narrow↔, no_member}
 use Rattle.description.specs.Literals.{Literal, entry_of}
 use Rattle.description.specs.Descriptions.{Description, included, Entry, top, name, both, every, at_least, if_every↔, if_least↔}
-use Rattle.description.specs.Roles.{ancestor, simple, anc_refl, parent_anc, anc_ind, anc_trans}
-use Rattle.description.specs.Acceptance.{roles_test, entries_test, entry_test, entry↔, simples_test, everys_test}
+use Rattle.description.specs.Roles.{ancestor, simple, anc_refl, parent_anc}
+use Rattle.description.proofs.Roles.{anc_ind, anc_trans}
+use Rattle.description.specs.Acceptance.{roles_test, entries_test, entry_test, simples_test, everys_test}
+use Rattle.description.proofs.Acceptance.{entry↔}
 use Rattle.editing.specs.Inclusions.{ParentsIn}
 use Rattle.editing.specs.Editing.{tests, RoleIn, lone_role, Draft, role_in, describes, role_form, entry_form, query_kept, broken}
 use Rattle.editing.specs.Editing.{new_role, put_in}

@@ -16,7 +16,8 @@ use Rattle.logic.specs.SetLaws.{narrow↔, with↔, set_of↔, set_ext, no_membe
 use Rattle.description.specs.Literals.{Literal, entry_of, literal}
 use Rattle.description.specs.Descriptions.{Description, included, Entry, top, every, fields_of, entry_of_fields, same_entry, same_entry↔}
 use Rattle.description.specs.Descriptions.{if_every↔, if_least↔}
-use Rattle.description.specs.Roles.{ancestor, simple, anc_refl, parent_anc, anc_ind, anc_trans}
+use Rattle.description.specs.Roles.{ancestor, simple, anc_refl, parent_anc}
+use Rattle.description.proofs.Roles.{anc_ind, anc_trans}
 use Rattle.description.specs.Acceptance.{entry_test, simples_test, simple_test, distinct_test, everys_test, every_below_test, literal_test}
 use Rattle.labels.specs.Labels.{most_entries}
 use Rattle.intake.specs.Intake.{most_roles, most_rules}

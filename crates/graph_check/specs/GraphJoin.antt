@@ -11,8 +11,8 @@ use Rattle.logic.specs.Lists.{each}
 use Rattle.parts.specs.Numbers.{up_to, up_to_all}
 use Rattle.description.specs.Literals.{Literal, members, literal_set}
 use Rattle.description.specs.Descriptions.{Description, wanted}
-use Rattle.description.specs.Roles.{anc_in}
-use Rattle.tables.specs.Tables.{records_in, describe}
+use Rattle.description.proofs.Roles.{anc_in}
+use Rattle.tables.specs.Tables.{records_in, describe, entry_count}
 use Rattle.roles.specs.Ancestors.{role_count}
 use Rattle.roles.specs.Records.{MasksOf, masks_plain, masks_compatible}
 use Rattle.intake.specs.Intake.{AcceptedParts, parts_test, parts_accepted}
@@ -23,7 +23,6 @@ use Rattle.evidence.specs.InPlace.{record_length, label_there, edges_there, edge
 use Rattle.graph.specs.Graphs.{label_at, node_at, edges_at, wanted_at}
 use Rattle.graph.specs.GraphTests.{stored_graph, label_test, both_test, edge_test, node_refusal, node_form, graph_refusal}
 use Rattle.nodes.specs.NodeSteps.{label_code, required_set, label_is, root_set, root_is, both_at, both_is}
-use Rattle.tables.specs.Tables.{entry_count}
 use Rattle.edges.specs.EdgeSteps.{edges_code, edges_are}
 use Rattle.fillers.specs.FillerLaws.{everys_are, counts_are}
 use Rattle.graph_check.specs.GraphEvidence.{graph_head, form_at, graph_tests}

@@ -7,7 +7,8 @@ use Rattle.logic.specs.Refusals.{unless, unless↔}
 use Rattle.parts.specs.Numbers.{byte_at}
 use Rattle.parts.specs.Pairs.{fills, Fills, fills↔}
 use Rattle.description.specs.Descriptions.{Description, fields_of, entry_of_fields, same_fields, same_fields↔}
-use Rattle.description.specs.Acceptance.{Accepted, description_tests, formed↔}
+use Rattle.description.specs.Acceptance.{Accepted, description_tests}
+use Rattle.description.proofs.Acceptance.{formed↔}
 use Rattle.tables.specs.Tables.{fields_at, records_in, describe}
 use Rattle.labels.specs.Labels.{most_entries}
 use Rattle.answers.specs.declared.Tested.{Tested}

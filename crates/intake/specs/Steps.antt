@@ -13,7 +13,8 @@ use Rattle.parts.specs.Numbers.{byte_at, num2, up_to, up_to_all}
 use Rattle.description.specs.Literals.{literal, code, entry_of, code_literal, code_entry}
 use Rattle.description.specs.Descriptions.{Entry, top, name, both, every, at_least, Description, Fields, fields_of, entry_of_fields, entry_back, same_fields, same_fields↔, same_entry, compound, if_every, if_least}
 use Rattle.description.specs.Roles.{simple}
-use Rattle.description.specs.Acceptance.{entry_test, simple_test, distinct_test, every_below_test, literal_test, entries_test, simples_test, distincts_test, everys_test, query_test, disjoint_test, disjoints_test, description_tests, entry↔, EntryOk}
+use Rattle.description.specs.Acceptance.{entry_test, simple_test, distinct_test, every_below_test, literal_test, entries_test, simples_test, distincts_test, everys_test, query_test, disjoint_test, disjoints_test, description_tests, EntryOk}
+use Rattle.description.proofs.Acceptance.{entry↔}
 use Rattle.labels.specs.Labels.{most_entries}
 use Rattle.tables.specs.Tables.{entry_count, fields_at, records_in, describe, fields_test, fields↔}
 use Rattle.roles.specs.Ancestors.{role_count}

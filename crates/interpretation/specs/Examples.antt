@@ -1,19 +1,14 @@
 -- Worked examples: each kind of entry where it is true and where it is not, and lines that hold or fail, each for one reason.
 use Rattle.std.specs.Prelude.{ℕ, ◌≡◌, refl, Bool, true, false, List, [], ◌∷◌, map, get_or}
-use Rattle.std.proofs.Math.Option.{none}
 use Rattle.logic.specs.Bounded.{all_below, any_below}
-use Rattle.logic.specs.Closure.{closure}
 use Rattle.logic.specs.Lists.{each, tabulate}
-use Rattle.logic.specs.Sets.{has, narrow}
+use Rattle.logic.specs.Sets.{has}
 use Rattle.logic.specs.Sums.{sum_below}
 use Rattle.description.specs.Literals.{Literal, literal}
-use Rattle.description.specs.Descriptions.{Entry, top, name, both, every, at_least, Disjoint, Description, compatible, same_entry, if_every, if_least}
-use Rattle.description.specs.Roles.{ancestor, simple}
-use Rattle.description.specs.Acceptance.{entry_test, description_refusal, description_tests}
+use Rattle.description.specs.Descriptions.{Entry, top, name, both, every, at_least, Disjoint, Description, compatible}
 use Rattle.description.specs.Examples.{Role, under, transitive_under, disjoint_of, with_disjoint, table_of, lit}
 use Rattle.interpretation.specs.Meaning.{Interpretation, meaning, truth_with, truth, holds}
-use Rattle.interpretation.specs.Models.{Model, Satisfies}
-use Rattle.interpretation.specs.Reading.{includes, composes, separates, follows, satisfies, reads, reads↔}
+use Rattle.interpretation.specs.Reading.{includes, composes, separates, follows, satisfies, reads}
 
 -- an interpretation from masks: for each entry the elements that have the name, for each role and element the fillers
 abbrev line_of : ℕ → List ℕ → List (List ℕ) → Interpretation
@@ -25,10 +20,10 @@ line_of size names roles = record {
 
 -- ---- truth
 -- role 0 is under role 1, which is transitive
-abbrev two_roles : List Role
+abbrev pub two_roles : List Role
 two_roles = under 2 ∷ transitive_under 0 ∷ []
 
-abbrev entries : List Entry
+abbrev pub entries : List Entry
 entries =
     -- 1, 2: names A and B; 3: A and not B
     top ∷ name ∷ name ∷ both (lit 2) (lit 5)
@@ -39,7 +34,7 @@ entries =
     ∷ []
 
 -- A has elements 1 and 2, B has element 2; role 0 has the pairs 0 1, 0 2, 1 2, and so has role 1
-abbrev line : Interpretation
+abbrev pub line : Interpretation
 line = line_of 3 (0 ∷ 6 ∷ 4 ∷ []) ((6 ∷ 4 ∷ 0 ∷ []) ∷ (6 ∷ 4 ∷ 0 ∷ []) ∷ [])
 
 -- the literal at elements 0, 1 and 2
@@ -139,15 +134,3 @@ trials =
 trials_hold : map (λ t. reads t.given t.read t.wanted) trials ≡ map (λ t. t.answer) trials
 unfolding trials includes composes separates compatible follows satisfies all_below any_below each literal truth truth_with meaning sum_below has
 trials_hold = refl
-
--- the first of them is accepted, and the line is a model of it that has the root
-abbrev first : Description
-first = table_of two_roles entries (lit 4) (lit 8 ∷ [])
-
-first_accepted : description_refusal first ≡ none
-unfolding description_tests all_below any_below narrow entry_test literal if_least if_every simple ancestor closure has same_entry
-first_accepted = refl
-
-first_model : Model first line × Satisfies first (first.root ∷ []) line
-unfolding includes composes separates compatible follows satisfies all_below any_below each literal truth truth_with meaning sum_below has
-first_model = (reads↔ first line (first.root ∷ [])).0 refl

@@ -1,15 +1,16 @@
 -- Models of a description (01, the opening), and what a true entry says of an element and its fillers.
-use Rattle.std.specs.Prelude.{ℕ, zero, suc, ◌≤◌, ◌<◌, ◌≡◌, refl, ◌↔◌, ◌⊎◌, Bool, not, ◌&&◌, List, leb}
-use Rattle.std.proofs.Common.{sym, ◌∙◌, subst, inl, inr, arith}
-use Rattle.logic.specs.Tests.{So, ◌⇒◌, decide, so_and, so_not, not_so, reading, and↔, not↔, imp↔, leb↔}
-use Rattle.logic.specs.Bounded.{all_below, any_below, any_intro, any_elim, all↔}
+use Rattle.std.specs.Prelude.{ℕ, zero, suc, ◌≤◌, ◌<◌, ◌≡◌, ◌↔◌, ◌&&◌, List}
+use Rattle.std.proofs.Common.{subst, inl, inr}
+use Rattle.logic.specs.Tests.{So, and↔, imp↔, leb↔}
+use Rattle.logic.specs.Bounded.{all↔}
 use Rattle.logic.specs.Lists.{◌∈◌}
-use Rattle.logic.specs.Sums.{count_below, count_some}
-use Rattle.description.specs.Literals.{Literal, pos, neg, opposite, Label, plus, plus↔}
-use Rattle.description.specs.Descriptions.{Entry, top, name, both, every, at_least, Description, included, Compatible}
-use Rattle.description.specs.Roles.{ancestor, anc_ind}
+use Rattle.logic.specs.Sums.{count_below}
+use Rattle.description.specs.Literals.{Literal, Label, plus, plus↔}
+use Rattle.description.specs.Descriptions.{top, both, every, at_least, Description, included, Compatible}
+use Rattle.description.specs.Roles.{ancestor}
+use Rattle.description.proofs.Roles.{anc_ind}
 use Rattle.description.specs.Acceptance.{Accepted, first_top}
-use Rattle.interpretation.specs.Meaning.{Interpretation, meaning, truth, truth_eq, holds, holds_opposite}
+use Rattle.interpretation.specs.Meaning.{Interpretation, meaning, truth, truth_eq, holds}
 
 -- a model of the description (01: a line of it): at least one element, inclusions, transitive roles, disjoint roles, every rule everywhere
 pub record Model (D : Description) (I : Interpretation) : Type 0 where
@@ -31,9 +32,6 @@ AllTrue D I L x = (l : Literal) → So (L l) → So (holds D I l x)
 
 pub plus_true : (D : Description) (I : Interpretation) (L : Label) (l : Literal) (x : ℕ) → AllTrue D I L x → So (holds D I l x) → AllTrue D I (plus L l) x
 plus_true D I L l x a h m q = elim ((plus↔ L l m).0 q) [ inl u ↦ a m u | inr e ↦ subst (λ k. So (holds D I k x)) e h ]
-
-pub opposite_true : (D : Description) (I : Interpretation) (l : Literal) (x : ℕ) → So (holds D I (opposite l) x) ↔ (So (holds D I l x) → ⊥)
-opposite_true D I l x = rw (holds_opposite D I l x) (not↔ (holds D I l x))
 
 -- a role's pairs are pairs of its ancestors
 pub role_up : (D : Description) → Accepted D → (I : Interpretation) → Model D I → (r s x y : ℕ) → r < D.roles → So (ancestor D r s)
@@ -60,17 +58,3 @@ module _ (D : Description) (A : Accepted D) (I : Interpretation) where
       → So (truth D I e x) ↔ (n ≤ count_below I.size (λ y. I.role r x y && holds D I l y))
   unfolding meaning
   least_true e x r l n h q = rw (truth_eq D A I e x (at_least r l n) h q) (leb↔ n _)
-
-  -- where "every" fails, a filler has the opposite
-  pub every_false : (e x r : ℕ) (l : Literal) → e < D.entries → D.entry e ≡ every r l → (So (truth D I e x) → ⊥)
-      → 1 ≤ count_below I.size (λ y. I.role r x y && holds D I (opposite l) y)
-  every_false e x r l h q t = elim (decide (any_below I.size fails)) [
-    | inl a ↦ let w = any_elim I.size fails a in count_some I.size fails w.0 w.1 w.2
-    | inr a ↦ absurd (t ((every_true e x r l h q).1 (λ y hy p. elim (decide (holds D I l y)) [
-      | inl u ↦ u
-      | inr u ↦ absurd (a (any_intro I.size fails y hy (so_and _ _ p ((opposite_true D I l y).1 u))))
-    ])))
-  ]
-    where
-      fails : ℕ → Bool
-      fails y = I.role r x y && holds D I (opposite l) y

@@ -6,7 +6,7 @@ use Rattle.std.proofs.Math.Option.{none}
 use Rattle.description.specs.Descriptions.{wanted}
 use Rattle.logic.specs.Lists.{◌∈◌, length_tabulate}
 use Rattle.description.specs.Literals.{Literal, entry_of}
-use Rattle.graph.specs.Sound.{graph_sound}
+use Rattle.graph.proofs.Sound.{graph_sound}
 use Rattle.lines.specs.Lines.{wide_names, line_byte, line_bytes, line_in}
 use Rattle.lines.specs.Alike.{model_alike, satisfies_alike}
 use Rattle.lines.specs.LineLaws.{back, back_ok}

@@ -27,7 +27,7 @@ use Rattle.copies.specs.Copying.{owner_mask, owner_is}
 use Rattle.closing.specs.Closing.{mask_at, closed_mask, closed_byte}
 use Rattle.graph.specs.Graphs.{Graph, Keeps}
 use Rattle.graph.specs.Line.{copies, joins, direct, line}
-use Rattle.graph.specs.Copies.{copies_pos}
+use Rattle.graph.proofs.Copies.{copies_pos}
 use Rattle.lines.specs.Lines.{wide_names, name_size, name_at, line_length, name_mask, role_mask, byte_of, line_byte, pair_byte, line_bytes}
 use Rattle.lines.specs.LineLaws.{pair_below, pair_row, pair_column, name_next, byte_size, byte_names, byte_pairs, written}
 use Rattle.lines.specs.Numerals.{Bytes, names}

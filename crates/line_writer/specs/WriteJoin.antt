@@ -10,11 +10,12 @@ use Rattle.logic.specs.Sets.{has, set_of}
 use Rattle.logic.specs.SetLaws.{set_of↔, set_ext}
 use Rattle.description.specs.Literals.{Literal}
 use Rattle.description.specs.Descriptions.{Description}
-use Rattle.description.specs.Roles.{ancestor, anc_refl, anc_in}
+use Rattle.description.specs.Roles.{ancestor, anc_refl}
+use Rattle.description.proofs.Roles.{anc_in}
 use Rattle.description.specs.Acceptance.{Accepted}
 use Rattle.graph.specs.Graphs.{Graph, edges_at, Keeps}
 use Rattle.graph.specs.Line.{copies, direct, pairs, line}
-use Rattle.graph.specs.Copies.{owner, copies_pos}
+use Rattle.graph.proofs.Copies.{owner, copies_pos}
 use Rattle.lines.specs.Lines.{role_mask}
 
 -- ---- masks of direct pairs, closed and handed to the ancestors, are the masks of the line

@@ -12,7 +12,8 @@ use Rattle.logic.specs.SetLaws.{narrow↔, within↔, with↔}
 use Rattle.parts.specs.Numbers.{byte_at}
 use Rattle.labels.specs.Labels.{most_entries, most_literals, label_with}
 use Rattle.labels.specs.Words.{unopposed}
-use Rattle.description.specs.Literals.{Literal, opposite, code, literal, entry_of, adding, literal_set, members, code_literal, literal_code, code_entry, within_set}
+use Rattle.description.specs.Literals.{Literal, opposite, code, literal, entry_of, adding, literal_set, members, code_literal, literal_code, code_entry}
+use Rattle.description.proofs.Literals.{within_set}
 use Rattle.description.specs.Descriptions.{Entry, top, name, both, every, at_least, entry_of_fields, if_both, wanted}
 use Rattle.tables.specs.Tables.{entry_count, fields_at, describe}
 use Rattle.tables.specs.Concepts.{concept_of, concept_at}

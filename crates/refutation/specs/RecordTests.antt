@@ -11,9 +11,10 @@ use Rattle.logic.specs.Lists.{◌∈◌, each, each↔, listed}
 use Rattle.logic.specs.Sets.{narrow, within}
 use Rattle.logic.specs.Refusals.{Refusal, unless, unless↔, refuse, refuse↔, refuse_from, records↔}
 use Rattle.counting.specs.Trees.{Tree, formed, depth, ValuesFit, tree_test}
-use Rattle.counting.specs.TreeLaws.{tree↔, fits_all}
+use Rattle.counting.proofs.TreeLaws.{tree↔, fits_all}
 use Rattle.counting.specs.Rows.{limits, Closed, closed_test}
-use Rattle.description.specs.Literals.{Literal, pos, neg, opposite, code, entry_of, Label, members, adding, literal_set, plus, Within, in_table↔, within_members↔, members_adding, adding↔, literal_set↔, label_of, members_label_of}
+use Rattle.description.specs.Literals.{Literal, pos, neg, opposite, code, entry_of, Label, members, adding, literal_set, plus, Within, in_table↔, within_members↔, members_adding, adding↔, label_of, members_label_of}
+use Rattle.description.proofs.Literals.{literal_set↔}
 use Rattle.description.specs.Descriptions.{Description, Compatible, compatible, compatible↔, is_both, is_both↔}
 use Rattle.description.specs.Acceptance.{Accepted}
 use Rattle.refutation.specs.Cells.{Row, row_of, is_row, rows_of, bounds, cell_role, Known, known, known↔, rows_inside, known_in_lem}

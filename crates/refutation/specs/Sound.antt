@@ -11,12 +11,13 @@ use Rattle.logic.specs.Sets.{has, set_of}
 use Rattle.logic.specs.SetLaws.{has_set_of, set_of_lt}
 use Rattle.counting.specs.Trees.{Side, lower, upper, Meets}
 use Rattle.counting.specs.Rows.{bound_at, Fillers}
-use Rattle.counting.specs.Solutions.{closed_no_fillers}
+use Rattle.counting.proofs.Solutions.{closed_no_fillers}
 use Rattle.description.specs.Literals.{Literal, pos, neg, opposite, entry_of, same_literal, same_literal_lem, Label, members, plus, Within}
 use Rattle.description.specs.Descriptions.{Entry, top, name, both, every, at_least, Description, Compatible}
 use Rattle.description.specs.Acceptance.{Accepted}
 use Rattle.interpretation.specs.Meaning.{Interpretation, truth, holds}
-use Rattle.interpretation.specs.Models.{Model, Satisfies, AllTrue, plus_true, opposite_true, role_up, top_true, both_true, every_true, least_true, every_false}
+use Rattle.interpretation.specs.Models.{Model, Satisfies, AllTrue, plus_true, role_up, top_true, both_true, every_true, least_true}
+use Rattle.interpretation.proofs.Models.{opposite_true, every_false}
 use Rattle.refutation.specs.Cells.{Row, positive_row, negative_row, row_of, is_row, row_from, rows_of, row_at, bounds, cell_role, Known, topmost, qualified, denied, passed, onward, length_rows, length_bounds, bound_at_lem, row_at_lem, rows_inside, RowIn}
 use Rattle.refutation.specs.Records.{Cell, unshown, cited, barred, Counting, Step, contradiction, conjunction, disjunction, by_rule, case_split, counting, Refutation, record_at, number_at, cell_at, open_at, is_open, literal_at, CiteOk, StepOk, Cites, in_label, CellFits, CellOk, TreeOk, RecordOk, Closes}
 

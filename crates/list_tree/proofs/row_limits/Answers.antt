@@ -1,7 +1,7 @@
 use Prim.Native.Nat.{◌-◌}
 use mathlib.Core.Path.{refl, ◌∙◌, ap}
 use Rattle.parts.specs.Filling.{filled_none, filled_more}
-use Rattle.rows.specs.HeldRows.{first_held}
+use Rattle.rows.proofs.HeldRows.{first_held}
 use Rattle.list_tree.specs.TreeSteps.{row_limit}
 use Rattle.list_tree.specs.HeldLaws.{limits_rows}
 use native.Mathlib.Omega.{arith}

@@ -1,0 +1,6 @@
+use Rattle.editor.specs.StateLaws.{edits_state}
+use Rattle.editor.proofs.set_root.Goals as goal
+
+pub returns : goal.returns
+returns c = let h = edits_state c.args.s _ c.put_root-answer.result _ _ c.put_root-answer.ensures c.after.ensures in
+    record { made = h.0; kept = h.1 }

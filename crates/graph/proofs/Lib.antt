@@ -1,0 +1,4 @@
+pub mod Copies
+pub mod Sound
+pub mod LiftedGraph
+pub mod GraphTests
