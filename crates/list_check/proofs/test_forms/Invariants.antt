@@ -1,0 +1,15 @@
+use Prim.Native.Nat.{◌-◌, ◌≤◌}
+use mathlib.Core.Path.{◌≡◌}
+use mathlib.Core.Option.{none}
+use Rattle.logic.specs.Refusals.{refuse_from}
+use Rattle.evidence.specs.Evidence.{edges_part}
+use Rattle.list_check.specs.CheckSteps.{form_of}
+use Rattle.list_check.proofs.test_forms.Given as goal
+
+abbrev pub invariant-loop-i : goal.invariant-loop-i
+invariant-loop-i l =
+    (l.i ≤ l.n) × (refuse_from (form_of l.f.marks (edges_part l.f l.s)) (l.n - l.i) l.i none ≡ refuse_from
+    (form_of l.f.marks (edges_part l.f l.s)) l.n 0 none)
+
+abbrev pub decreases-loop-i : goal.decreases-loop-i
+decreases-loop-i l = l.n - l.i
