@@ -1,4 +1,6 @@
 // The editor of a description: a state by value, and operations that give the next one. They are those on lent bytes.
+#![tactic(auto)]
+
 ghost use Rattle.std.specs.Prelude.{◌≡◌, ℕ, length, drop};
 ghost use Rattle.answers.specs.declared.Change.TheVariants.{Refused};
 ghost use Rattle.tables.specs.Concepts.{fields_in};

@@ -1,6 +1,8 @@
 // Plays the scripts of the data file with the editor, and holds each answer, each byte of a buffer and the role records at the end to the
 // row. A row's fields stand between tabs: the most entries of a table, the items of the script, their answers, the records.
 // Prints how often each answer was right, what differs in a row, and at the end whether all agree.
+#![tactic(auto)]
+
 mod items;
 mod records;
 mod tally;
