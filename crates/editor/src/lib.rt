@@ -20,14 +20,14 @@ use roles::Role;
 use tables::{Fields, RoleNo};
 
 // The state in bytes, and the records of its roles.
-#[derive(Drop)]
+#[derive(Clone, Copy)]
 pub struct Editor {
     bytes: [u8; STATE_BYTES],
     table: [Role; 16],
 }
 
 // The answer to an operation, and the state after it.
-#[derive(Drop)]
+#[derive(Clone, Copy)]
 pub struct Edited {
     pub answer: Change,
     pub state: Editor,
