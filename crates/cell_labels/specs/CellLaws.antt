@@ -131,7 +131,7 @@ put_set T Q q p e h = set_ext Q (set_of room r)
 pub is_every↔ : (f : ℕ → Literal → Bool) (x : Entry) → So (is_every f x) ↔ ((r : ℕ) × (l : Literal) × (x ≡ every r l) × So (f r l))
 unfolding is_every
 is_every↔ f x = (
-  elim x [
+  elim x as (λ y. So (is_every f y) → (r : ℕ) × (l : Literal) × (y ≡ every r l) × So (f r l)) [
     | top ↦ λ h. absurd (false≢true h)
     | name ↦ λ h. absurd (false≢true h)
     | both a b ↦ λ h. absurd (false≢true h)

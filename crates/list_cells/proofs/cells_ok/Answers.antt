@@ -1,0 +1,7 @@
+use Rattle.cell_walk.proofs.WalkLaws.{tally_fine}
+use Rattle.list_cells.specs.CellSteps.{cells_code}
+use Rattle.list_cells.proofs.cells_ok.Goals as goal
+
+pub returns : goal.returns
+unfolding cells_code
+returns c = tally_fine c.walk_cells-found.ensures
