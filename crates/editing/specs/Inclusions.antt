@@ -6,7 +6,8 @@ use Rattle.logic.specs.Tests.{So, so_and, and_l, and_r, or_l, or_r, or_cases, so
 use Rattle.logic.specs.Sets.{has, with}
 use Rattle.logic.specs.SetLaws.{with↔}
 use Rattle.description.specs.Descriptions.{Description, included}
-use Rattle.description.specs.Roles.{ancestor, anc_refl, parent_anc, anc_ind, anc_trans}
+use Rattle.description.specs.Roles.{ancestor, anc_refl, parent_anc}
+use Rattle.description.proofs.Roles.{anc_ind, anc_trans}
 
 -- every parent bit is of the table
 abbrev pub ParentsIn : Description → Type 0
