@@ -1,4 +1,5 @@
 // What the tests and the public functions answer.
+#![tactic(auto)]
 
 // A test: nothing to refuse, or a refusal's number and record.
 #[derive(Clone, Copy)]

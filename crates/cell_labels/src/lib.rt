@@ -1,4 +1,6 @@
 // What the rows of a counting step give to its cells, found once a step, and the label that is known of a cell by them.
+#![tactic(auto)]
+
 ghost use Rattle.std.specs.Prelude.{◌≡◌, ◌&&◌, cond, true, List, ℕ, ◌+◌, ◌%◌, ◌<◌, eqb, length, get_or};
 ghost use Rattle.logic.specs.Bounded.{any_below};
 ghost use Rattle.logic.specs.Sets.{has};

@@ -1,5 +1,7 @@
 // The roles of a counting step's cells, kept while the cells are walked: a running value, corrected by the rows that come in or go out
 // from one cell to the next, and their count.
+#![tactic(auto)]
+
 ghost use Rattle.std.specs.Prelude.{◌≡◌, cond, ℕ, ◌+◌, length, get_or, List};
 ghost use Rattle.std.specs.Int.Bits.{bit_or};
 ghost use Rattle.logic.specs.Sets.{has};

@@ -20,8 +20,10 @@ use Rattle.graph.specs.Line.{line}
 use Rattle.graph.proofs.Sound.{graph_sound}
 use Rattle.refutation.specs.Cells.{bounds, rows_of}
 use Rattle.refutation.specs.Records.{Refutation, RefutationLimits, RefutationFits, Closes, open_at, Counting}
-use Rattle.refutation.specs.RecordTests.{any_refutation, refutation_refusal, refutation↔, lifted_refutation↔}
-use Rattle.refutation.specs.Sound.{refutation_sound}
+use Rattle.refutation.specs.RecordTests.{any_refutation, refutation_refusal}
+use Rattle.refutation.proofs.RecordTests.{refutation↔}
+use Rattle.refutation.proofs.LiftedRefutation.{lifted_refutation↔}
+use Rattle.refutation.proofs.Sound.{refutation_sound}
 use Rattle.completeness.specs.Dichotomy.{exactly_one, small_graph}
 
 wanted_in : (D : Description) → Accepted D → (l : Literal) → l ∈ wanted D → entry_of l < D.entries

@@ -1,4 +1,6 @@
 // What a record of a refutation cites: earlier records alone, each with its label within the label named.
+#![tactic(auto)]
+
 ghost use Rattle.std.specs.Prelude.{◌≡◌, ltb};
 ghost use Rattle.std.proofs.Math.Option.{none};
 ghost use Rattle.logic.specs.Refusals.{unless};

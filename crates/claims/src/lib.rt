@@ -1,4 +1,6 @@
 // The answer on a claim "every C is D" with one or two pieces of evidence.
+#![tactic(auto)]
+
 ghost use Rattle.std.specs.Prelude.{◌≡◌};
 ghost use Rattle.labels.specs.Labels.{value_of};
 ghost use Rattle.answers.specs.Answers.{refusal_of, wholly, of_judgement};

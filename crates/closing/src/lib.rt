@@ -1,4 +1,6 @@
 // Closing the transitive roles of a line in its bytes, all at once, in place.
+#![tactic(auto)]
+
 ghost use Rattle.std.specs.Prelude.{◌≡◌, cond, ℕ, ◌+◌, ◌*◌, ◌<◌, ◌≤◌, length};
 ghost use Rattle.std.specs.Int.Bits.{bit_or};
 ghost use Rattle.logic.specs.Sets.{has};

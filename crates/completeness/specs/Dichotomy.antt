@@ -23,7 +23,7 @@ use Rattle.graph.specs.Line.{line}
 use Rattle.graph.proofs.Sound.{graph_sound}
 use Rattle.graph.specs.Relabel.{relabel}
 use Rattle.refutation.specs.Records.{Refutation, number_at, Valid, Closes}
-use Rattle.refutation.specs.Sound.{refutation_sound}
+use Rattle.refutation.proofs.Sound.{refutation_sound}
 use Rattle.completeness.specs.Derivable.{Derivable, Reaches, cut_valid, label_is}
 use Rattle.completeness.specs.Types.{typ, typ_in, pos_out}
 use Rattle.completeness.specs.Elimination.{type, Dropped, Supported, AllSupported, none_contains, remaining}

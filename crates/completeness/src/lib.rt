@@ -1,1 +1,2 @@
 // Theorems only, in specs/: exactly one of a graph and a refutation exists.
+#![tactic(auto)]

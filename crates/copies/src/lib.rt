@@ -1,4 +1,6 @@
 // Copies of nodes: how many there are of each, and the edge that takes one.
+#![tactic(auto)]
+
 ghost use Rattle.std.specs.Prelude.{◌≡◌, ◌*◌, ◌≤◌, ◌<◌, max, length};
 ghost use Rattle.logic.specs.Sums.{only, max_below};
 ghost use Rattle.edges.specs.EdgeSteps.{edge_count};

@@ -1,1 +1,2 @@
 // Definitions and theorems only, in specs/: the arithmetic of the counting step.
+#![tactic(auto)]

@@ -19,7 +19,7 @@ use Rattle.graph.specs.Graphs.{Graph, Keeps}
 use Rattle.graph.specs.Line.{line}
 use Rattle.graph.proofs.Sound.{graph_sound}
 use Rattle.refutation.specs.Records.{Refutation, Closes}
-use Rattle.refutation.specs.Sound.{refutation_sound}
+use Rattle.refutation.proofs.Sound.{refutation_sound}
 use Rattle.completeness.specs.Dichotomy.{dichotomy, exclusive}
 use Rattle.intake.specs.Intake.{described, AcceptedBytes, accepted_bytes↔}
 use Rattle.demands.specs.Exact.{graph_of, refutation_of}

@@ -10,7 +10,7 @@ use Rattle.graph.specs.Graphs.{Graph}
 use Rattle.graph.specs.Line.{copies, line}
 use Rattle.graph.proofs.Sound.{graph_sound}
 use Rattle.refutation.specs.Records.{Refutation}
-use Rattle.refutation.specs.Sound.{refutation_sound}
+use Rattle.refutation.proofs.Sound.{refutation_sound}
 use Rattle.intake.specs.Intake.{described, AcceptedBytes, accepted_bytes↔}
 use Rattle.evidence.specs.Evidence.{layout_of, graph_in}
 use Rattle.graph_check.specs.GraphEvidence.{GraphKept, kept↔}

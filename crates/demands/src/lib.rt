@@ -1,1 +1,2 @@
 // Definitions and theorems only, in specs/: the owner's demands, on bytes.
+#![tactic(auto)]

@@ -1,1 +1,2 @@
 // Definitions and laws only, in specs/: descriptions, their roles, and when one is accepted.
+#![tactic(auto)]

@@ -1,4 +1,6 @@
 // Runs the rows of each data file: a description in hexadecimal digits on a line, or a remark after '#'. Prints an answer for each.
+#![tactic(auto)]
+
 ghost use Rattle.std.specs.Prelude.{◌≤◌, length, IfOk};
 
 use answers::Tested;

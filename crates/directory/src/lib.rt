@@ -1,4 +1,6 @@
 // The pairs at the head of a description, test 1 of them, and the parts that they name.
+#![tactic(auto)]
+
 ghost use Rattle.std.specs.Prelude.{◌≡◌, ◌≤◌};
 ghost use Rattle.tables.specs.Tables.{records_in};
 ghost use Rattle.directory.specs.Directory.{four, pair_count, directory_test, roles_part, concepts_part, query_part, disjoint_part};

@@ -1,4 +1,6 @@
 // Rule 13: the edges behind a record's label.
+#![tactic(auto)]
+
 ghost use Rattle.std.specs.Prelude.{◌≡◌, true, ◌*◌, ◌/◌, ◌<◌, ◌≤◌};
 ghost use Rattle.logic.specs.Bounded.{all_below};
 ghost use Rattle.logic.specs.Sets.{has, narrow, within};

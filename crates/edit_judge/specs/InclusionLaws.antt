@@ -15,10 +15,10 @@ use Rattle.roles.specs.declared.Role.{Role}
 use Rattle.roles.specs.Records.{role_table}
 use Rattle.intake.specs.Steps.{simples_code, everys_code}
 use Rattle.editing.specs.Editing.{RoleIn, Draft, is_set, role_in, describes, entry_form, inclusion, put_in, refusal, Made}
-use Rattle.editing.specs.Kept.{passed, Few, made_few, entries_roles}
-use Rattle.editing.specs.Answers.{inclusion_answers}
+use Rattle.editing.proofs.Kept.{passed, Few, made_few, entries_roles}
+use Rattle.editing.proofs.Answers.{inclusion_answers}
 use Rattle.edit_bytes.specs.Out.{role_bytes, roles_out, concepts_out, query_out}
-use Rattle.edit_bytes.specs.OutLaws.{roles_long, byte_of, mask_of_lem}
+use Rattle.edit_bytes.proofs.OutLaws.{roles_long, byte_of, mask_of_lem}
 use Rattle.edit_lay.specs.Lays.{with_parent}
 use Rattle.edit_state.specs.Lent.{roles_room, concepts_room, query_room, roles_from, concepts_from, filled, flag, in_bytes, draft_bytes}
 use Rattle.edit_state.specs.Lent.{Lends, roles_in, entries_in}

@@ -1,4 +1,3 @@
 pub mod Judging
 pub mod TestLaws
 pub mod InclusionLaws
-pub mod ConceptLaws

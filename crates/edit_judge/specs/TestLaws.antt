@@ -15,12 +15,11 @@ use Rattle.roles.specs.Records.{role_table}
 use Rattle.roles.specs.declared.Role.{Role}
 use Rattle.entry_tests.specs.Everys.{every_at}
 use Rattle.entry_tests.specs.Entries.{simple_at, twin_at}
-use Rattle.intake.specs.Steps.{simples_code, everys_code, entries_are, simple_at_lem, distinct_at, every_at_lem, simples_are}
-use Rattle.intake.specs.Steps.{everys_are}
+use Rattle.intake.specs.Steps.{simples_code, everys_code, entries_are, simple_at_lem, distinct_at, every_at_lem, simples_are, everys_are}
 use Rattle.editing.specs.Editing.{Draft, describes, entry_form}
-use Rattle.editing.specs.Kept.{Few}
+use Rattle.editing.proofs.Kept.{Few}
 use Rattle.edit_bytes.specs.Out.{roles_out, concepts_out, query_out}
-use Rattle.edit_bytes.specs.OutLaws.{roles_long, concepts_long, fields_of_lem, is_described}
+use Rattle.edit_bytes.proofs.OutLaws.{roles_long, concepts_long, fields_of_lem, is_described}
 
 module _ (U : Draft) (few : Few U) (ok : So (entries_test (entry_form U) (describes U))) where
   abbrev rs : List ℕ

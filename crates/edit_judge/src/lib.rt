@@ -1,4 +1,6 @@
 // An inclusion and a concept, put into the state: judged by the tables as they would be, and laid only then.
+#![tactic(auto)]
+
 ghost use Rattle.std.specs.Prelude.{◌≡◌, ◌%◌, ◌≤◌, ◌&&◌, ltb, length};
 ghost use Rattle.parts.specs.Numbers.{up_to};
 ghost use Rattle.tables.specs.Concepts.{fields_in};

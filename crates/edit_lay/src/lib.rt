@@ -1,4 +1,6 @@
 // What the editor lays into bytes: a role, a parent of it, and an entry.
+#![tactic(auto)]
+
 ghost use Rattle.std.specs.Prelude.{◌≡◌, ◌%◌, ◌∷◌};
 ghost use Rattle.logic.specs.Sets.{with};
 ghost use Rattle.laying.specs.Numbers.{two};

@@ -8,9 +8,9 @@ use Rattle.roles.specs.declared.Role.{Role}
 use Rattle.roles.specs.Ancestors.{ancestor_mask}
 use Rattle.roles.specs.Records.{role_at, role_table, table_bytes, table_parents, table_masks, table_simple}
 use Rattle.editing.specs.Editing.{Draft, role_in, describes, Made}
-use Rattle.editing.specs.Kept.{made_few}
+use Rattle.editing.proofs.Kept.{made_few}
 use Rattle.edit_bytes.specs.Out.{roles_out, concepts_out, query_out}
-use Rattle.edit_bytes.specs.OutLaws.{roles_long, byte_of, mask_of_lem, is_described}
+use Rattle.edit_bytes.proofs.OutLaws.{roles_long, byte_of, mask_of_lem, is_described}
 use Rattle.edit_state.specs.Lent.{Lends, table_in}
 use Rattle.edit_state.specs.PlaceLaws.{table_read}
 

@@ -11,9 +11,9 @@ use Rattle.parts.specs.Numbers.{byte_at, up_to_all}
 use Rattle.laying.specs.Laying.{laid}
 use Rattle.roles.specs.Records.{role_table}
 use Rattle.editing.specs.Editing.{Draft, is_set, Made}
-use Rattle.editing.specs.Kept.{made_few}
+use Rattle.editing.proofs.Kept.{made_few}
 use Rattle.edit_bytes.specs.Out.{roles_out, concepts_out, query_out}
-use Rattle.edit_bytes.specs.OutLaws.{roles_long, concepts_long}
+use Rattle.edit_bytes.proofs.OutLaws.{roles_long, concepts_long}
 use Rattle.edit_state.specs.Lent.{roles_room, concepts_room, query_room, roles_from, concepts_from, query_from, state_bytes, filled, flag}
 use Rattle.edit_state.specs.Lent.{in_bytes, draft_bytes, Lends, roles_in, entries_in, rules_in, table_in}
 use Rattle.edit_state.specs.FillLaws.{filled_front, filled_long, laid_behind, laid_front}

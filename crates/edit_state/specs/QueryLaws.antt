@@ -11,7 +11,7 @@ use Rattle.description.specs.Literals.{literal}
 use Rattle.description.specs.Acceptance.{literal_test}
 use Rattle.intake.specs.Steps.{literal_is}
 use Rattle.editing.specs.Editing.{Draft, is_set, describes, new_root, new_rule, put_in, refusal}
-use Rattle.editing.specs.Answers.{root_answers, rule_answers}
+use Rattle.editing.proofs.Answers.{root_answers, rule_answers}
 use Rattle.edit_bytes.specs.Out.{roles_out, concepts_out, query_out}
 use Rattle.edit_state.specs.Lent.{roles_room, concepts_room, query_room, query_from, rules_from, state_bytes, filled, flag, in_bytes}
 use Rattle.edit_state.specs.Lent.{draft_bytes, Lends, entries_in, rules_in}

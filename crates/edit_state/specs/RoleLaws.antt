@@ -9,9 +9,9 @@ use Rattle.logic.specs.Lists.{length_snoc}
 use Rattle.laying.specs.Numbers.{two}
 use Rattle.laying.specs.Laying.{laid}
 use Rattle.editing.specs.Editing.{RoleIn, lone_role, Draft, is_set, new_role, put_in, refusal}
-use Rattle.editing.specs.Answers.{role_answers}
+use Rattle.editing.proofs.Answers.{role_answers}
 use Rattle.edit_bytes.specs.Out.{role_bytes, roles_out, concepts_out, query_out}
-use Rattle.edit_bytes.specs.OutLaws.{roles_long}
+use Rattle.edit_bytes.proofs.OutLaws.{roles_long}
 use Rattle.edit_state.specs.Lent.{roles_room, concepts_room, query_room, roles_from, state_bytes, filled, flag, in_bytes, draft_bytes}
 use Rattle.edit_state.specs.Lent.{Lends, roles_in}
 use Rattle.edit_state.specs.FillLaws.{filled_on, bytes_snoc}

@@ -1,4 +1,6 @@
 // The editor's state in bytes that a caller lends: the start, and what asks no table. Each changes its own bytes there, and no other.
+#![tactic(auto)]
+
 ghost use Rattle.std.specs.Prelude.{◌≡◌, ◌*◌, ◌≤◌, ltb};
 ghost use Rattle.parts.specs.Numbers.{byte_at, up_to};
 ghost use Rattle.editing.specs.Editing.{new_role, new_root, new_rule};

@@ -1,4 +1,6 @@
 // The editor's state, written out as a description.
+#![tactic(auto)]
+
 mod out;
 
 ghost use Rattle.std.specs.Prelude.{◌≡◌, ◌&&◌, leb};

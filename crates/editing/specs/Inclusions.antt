@@ -1,15 +1,13 @@
 -- One inclusion more (02, job 4): which ancestors it gives, and which roles it leaves simple.
-use Rattle.std.specs.Prelude.{ℕ, ◌≤◌, ◌<◌, ◌≡◌, refl, ◌↔◌, ◌⊎◌, Bool, true, false, cond, ◌&&◌, ◌||◌, eqb}
+use Rattle.std.specs.Prelude.{ℕ, ◌<◌, ◌≡◌, refl, ◌↔◌, ◌⊎◌, Bool, true, false, cond, ◌&&◌, ◌||◌, eqb}
 use Rattle.std.proofs.Common.{sym, ◌∙◌, subst, inl, inr, arith}
 use Rattle.std.proofs.lemmas.Bool.{false≢true}
-use Rattle.std.specs.Int.Bits.{bit_or}
 use Rattle.logic.specs.Tests.{So, so_and, and_l, and_r, or_l, or_r, or_cases, so_eqb, eqb↔, same_test}
-use Rattle.logic.specs.Sets.{has, with, set_of}
-use Rattle.logic.specs.SetLaws.{with↔, has_set_of, set_of_cong, or_set_of}
+use Rattle.logic.specs.Sets.{has, with}
+use Rattle.logic.specs.SetLaws.{with↔}
 use Rattle.description.specs.Descriptions.{Description, included}
 use Rattle.description.specs.Roles.{ancestor, anc_refl, parent_anc}
 use Rattle.description.proofs.Roles.{anc_ind, anc_trans}
-use Rattle.roles.specs.Ancestors.{joined}
 
 -- every parent bit is of the table
 abbrev pub ParentsIn : Description → Type 0
@@ -82,17 +80,3 @@ module _ (D : Description) (inside : ParentsIn D) (r p : ℕ) (hr : r < D.roles)
         | inl w ↦ along a b ha w u
         | inr q ↦ rw q.1 (or_r (ancestor D x p) _ (so_and (ancestor D x r) _ (at_r (subst (λ z. So (P z)) q.0 u)) (anc_refl D p)))
       ]
-
-  -- as masks: those that hold r take in the ancestors of p
-  pub masks_including : (x : ℕ) → D.roles ≤ 16 → x < D.roles
-      → set_of 16 (ancestor E x) ≡ joined (set_of 16 (ancestor D x)) (set_of 16 (ancestor D p)) r
-  masks_including x few h = rw (has_set_of 16 (ancestor D x) r (omega arith)) (go (ancestor D x r) refl)
-    where
-      go : (b : Bool) → ancestor D x r ≡ b → set_of 16 (ancestor E x)
-          ≡ cond b (bit_or (set_of 16 (ancestor D x)) (set_of 16 (ancestor D p))) (set_of 16 (ancestor D x))
-      go true e = set_of_cong 16 _ _ (λ y _. anc_including x y h ∙ rw e refl) ∙ sym (or_set_of 16 (ancestor D x) (ancestor D p))
-      go false e = set_of_cong 16 _ _ (λ y _. anc_including x y h ∙ rw e (last (ancestor D x y)))
-        where
-          last : (b : Bool) → (b || false) ≡ b
-          last true = refl
-          last false = refl

@@ -1,4 +1,6 @@
 // The editor of a description: a state by value, and operations that give the next one. They are those on lent bytes.
+#![tactic(auto)]
+
 ghost use Rattle.std.specs.Prelude.{◌≡◌, ℕ, length, drop};
 ghost use Rattle.answers.specs.declared.Change.TheVariants.{Refused};
 ghost use Rattle.tables.specs.Concepts.{fields_in};
@@ -18,14 +20,14 @@ use roles::Role;
 use tables::{Fields, RoleNo};
 
 // The state in bytes, and the records of its roles.
-#[derive(Drop)]
+#[derive(Clone, Copy)]
 pub struct Editor {
     bytes: [u8; STATE_BYTES],
     table: [Role; 16],
 }
 
 // The answer to an operation, and the state after it.
-#[derive(Drop)]
+#[derive(Clone, Copy)]
 pub struct Edited {
     pub answer: Change,
     pub state: Editor,

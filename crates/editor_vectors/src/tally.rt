@@ -1,6 +1,7 @@
 // Answers, how they are printed, and how often each was right.
 use answers::{Change, Output};
-use libc::STDOUT_FILENO;
+use std::io;
+use std::io::Write;
 use vector_rows::{field, number};
 
 // An answer: 0 or a refusal's number and record, how many bytes were written, and whether the buffer is right.
@@ -57,63 +58,73 @@ pub(crate) fn slot(a: Answer) -> usize {
     }
 }
 
-fn print_number(before: &[u8], n: u64, behind: &[u8]) {
-    io::write_all(STDOUT_FILENO, before);
-    io::print_decimal(STDOUT_FILENO, n);
-    io::write_all(STDOUT_FILENO, behind);
+// Writes bytes as they are.
+fn put(rt: &impl Print, text: &[u8]) -> io::Result<()> {
+    io::writer(rt).write_all(text)
+}
+
+fn print_number(rt: &impl Print, before: &str, n: u64, behind: &str) -> io::Result<()> {
+    print!(rt; "{before}{n}{behind}")
 }
 
 // What differs in a row.
-pub(crate) fn print_differs(row: u64, what: &[u8], text: &[u8]) {
-    print_number(b"row ", row, b": ");
-    io::write_all(STDOUT_FILENO, what);
-    io::write_all(STDOUT_FILENO, text);
-    io::write_all(STDOUT_FILENO, b"\n");
+pub(crate) fn print_differs(rt: &impl Print, row: u64, what: &[u8], text: &[u8]) -> io::Result<()> {
+    print_number(rt, "row ", row, ": ")?;
+    put(rt, what)?;
+    put(rt, text)?;
+    print!(rt; "\n")
 }
 
 // An item that answered otherwise than the row says.
-pub(crate) fn print_other(row: u64, got: Answer, item: &[u8], want: &[u8]) {
-    print_differs(row, b"another answer to ", item);
-    print_number(b"  answered ", got.number as u64, b"");
-    print_number(b" ", got.place as u64, b"");
-    print_number(b", wrote ", got.size as u64, b" bytes");
+pub(crate) fn print_other(
+    rt: &impl Print,
+    row: u64,
+    got: Answer,
+    item: &[u8],
+    want: &[u8],
+) -> io::Result<()> {
+    print_differs(rt, row, b"another answer to ", item)?;
+    print_number(rt, "  answered ", got.number as u64, "")?;
+    print_number(rt, " ", got.place as u64, "")?;
+    print_number(rt, ", wrote ", got.size as u64, " bytes")?;
     if !got.clean {
-        io::write_all(STDOUT_FILENO, b", the buffer is another");
+        print!(rt; ", the buffer is another")?;
     }
-    io::write_all(STDOUT_FILENO, b"; the row says ");
-    io::write_all(STDOUT_FILENO, want);
-    io::write_all(STDOUT_FILENO, b"\n");
+    print!(rt; "; the row says ")?;
+    put(rt, want)?;
+    print!(rt; "\n")
 }
 
-fn print_count(k: usize, n: u64) {
+fn print_count(rt: &impl Print, k: usize, n: u64) -> io::Result<()> {
     if n == 0 {
-        return;
+        return Ok(());
     }
     match k {
-        0 => print_number(b"DONE: ", n, b"\n"),
-        1 => print_number(b"WRITTEN: ", n, b"\n"),
+        0 => print_number(rt, "DONE: ", n, "\n"),
+        1 => print_number(rt, "WRITTEN: ", n, "\n"),
         _ => {
-            print_number(b"REFUSED ", (k % 32) as u64, b": ");
-            print_number(b"", n, b"\n");
+            print_number(rt, "REFUSED ", (k % 32) as u64, ": ")?;
+            print_number(rt, "", n, "\n")
         }
     }
 }
 
 // How often each answer came, those of no row left out.
-pub(crate) fn print_counts(counts: &[u64]) {
+pub(crate) fn print_counts(rt: &impl Print, counts: &[u64]) -> io::Result<()> {
     let mut k = 0;
     while k < counts.len() {
-        print_count(k, counts[k]);
+        print_count(rt, k, counts[k])?;
         k += 1;
     }
+    Ok(())
 }
 
 // How many rows there are, and whether all agree.
-pub(crate) fn print_total(rows: u64, agree: bool) {
-    print_number(b"rows: ", rows, b"\n");
+pub(crate) fn print_total(rt: &impl Print, rows: u64, agree: bool) -> io::Result<()> {
+    println!(rt; "rows: {rows}")?;
     if agree {
-        io::write_all(STDOUT_FILENO, b"all agree\n");
+        println!(rt; "all agree")
     } else {
-        io::write_all(STDOUT_FILENO, b"not all agree\n");
+        println!(rt; "not all agree")
     }
 }

@@ -15,7 +15,8 @@ use Rattle.parts.specs.Numbers.{byte_at}
 use Rattle.counting.specs.Trees.{depth}
 use Rattle.description.specs.Literals.{Literal, pos, code, literal, literal_code, code_literal}
 use Rattle.refutation.specs.Records.{Cell, unshown, cited, barred, Counting, Step, contradiction, conjunction, disjunction, by_rule, case_split, counting, FormOk, FormFits}
-use Rattle.refutation.specs.RecordTests.{stored_refutation, when_counting, form_test, record_form, form↔}
+use Rattle.refutation.specs.RecordTests.{stored_refutation, when_counting, form_test, record_form}
+use Rattle.refutation.proofs.RecordTests.{form↔}
 use Rattle.list_form.specs.ListForm.{Placed, and_then, given, bytes_at, tree_in, most_depth, tree_at, cell_of, counting_in, sized, step_of, step_in}
 use Rattle.laying.specs.Places.{Stands, stands_end, first, second, stands_none, stands_append, stands_more, stands_whole, at_map, Byte, Small, small_none, small_more, small_append, small_at, each_map, each_value}
 use Rattle.encoding.specs.Trees.{encode_tree, TreeWidth, bytes_back, bytes_again, tree_back, tree_small, and_then_lem, given_there, Again, tree_again}

@@ -1,4 +1,6 @@
 // Tests 5, 6 and 7 of the entries of a description, by their fields and the role records.
+#![tactic(auto)]
+
 pub mod everys;
 
 ghost use Rattle.std.specs.Prelude.{◌≡◌, not, ◌||◌, ltb};

@@ -2,6 +2,8 @@
 // read.
 // A row's fields stand between tabs, bytes are hexadecimal digits, the last field is the answer that it expects; a remark follows '#'.
 // Prints for each file how often each answer was right, and each row whose answer was another.
+#![tactic(auto)]
+
 mod rows;
 mod tally;
 

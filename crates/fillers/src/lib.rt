@@ -1,4 +1,6 @@
 // Rules 14 and 15 of a graph's record: what "every" and "at least" ask of the fillers that its edges give.
+#![tactic(auto)]
+
 mod targets;
 
 ghost use Rattle.std.specs.Prelude.{◌≡◌, ◌&&◌, List, ℕ, ◌*◌, ◌<◌, leb, ltb};

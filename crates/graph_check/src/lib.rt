@@ -1,4 +1,6 @@
 // Tests 9 to 15 of a graph, for any wanted literals, and for those of a plain question.
+#![tactic(auto)]
+
 ghost use Rattle.std.specs.Prelude.{◌≡◌};
 ghost use Rattle.std.proofs.Math.Option.{none};
 ghost use Rattle.logic.specs.Refusals.{refuse, refuse_from};

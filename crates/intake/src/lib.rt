@@ -1,4 +1,6 @@
 // Tests 1 to 8 and 26 of a description, and the masks that evidence asks of its role records and of its fourth part.
+#![tactic(auto)]
+
 ghost use Rattle.std.specs.Prelude.{◌≡◌, not, ◌&&◌, ◌+◌, ◌*◌, ◌/◌, ◌%◌, ◌≤◌, eqb, leb, ltb, length};
 ghost use Rattle.logic.specs.Bounded.{all_below};
 ghost use Rattle.logic.specs.Sets.{narrow};

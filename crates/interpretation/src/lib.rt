@@ -1,1 +1,2 @@
 // Definitions and laws only, in specs/: finite interpretations, what is true in them, and models.
+#![tactic(auto)]

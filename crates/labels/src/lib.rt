@@ -1,4 +1,6 @@
 // Labels and name masks: sets of literals and of entries, read in place and held in words. Only this crate knows how wide they are.
+#![tactic(auto)]
+
 mod words;
 
 ghost use Rattle.std.specs.Prelude.{◌≡◌, ◌+◌, ◌-◌, ◌*◌, ◌/◌, ◌%◌, ◌^◌, ◌<◌, ◌≤◌};

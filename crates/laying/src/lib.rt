@@ -1,4 +1,5 @@
 // Bytes laid into a buffer one piece behind the other: what every writer is made of.
+#![tactic(auto)]
 
 ghost use Rattle.std.specs.Prelude.{◌+◌, ◌≡◌, leb};
 ghost use Rattle.laying.specs.Numbers.{two};

@@ -1,4 +1,6 @@
 // The direct reading of a written line: its form, then whether it is a model of the description with the root somewhere.
+#![tactic(auto)]
+
 mod form;
 mod pairs;
 mod places;

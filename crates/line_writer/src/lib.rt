@@ -1,4 +1,6 @@
 // Writes the line of a graph.
+#![tactic(auto)]
+
 ghost use Rattle.std.specs.Prelude.{◌≡◌, cond, ◌&&◌, ◌+◌, ◌*◌, ◌/◌, ◌^◌, ◌≤◌, ◌<◌, ltb, length};
 ghost use Rattle.labels.specs.Labels.{most_entries, wide, name_bytes, value_of};
 ghost use Rattle.logic.specs.Sets.{has};

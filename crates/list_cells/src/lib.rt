@@ -1,5 +1,7 @@
 // Test 18 of a counting step: whether the roles of a cell bar it; if not, what every filler of it has, and that the record cited for it has
 // no more.
+#![tactic(auto)]
+
 ghost use Rattle.std.specs.Prelude.{◌≡◌, cond, not, false, eqb};
 ghost use Rattle.std.proofs.Math.Option.{none, some};
 ghost use Rattle.parts.specs.Numbers.{up_to};

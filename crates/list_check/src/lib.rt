@@ -1,4 +1,6 @@
 // Tests 9, 10 and 16 to 20 of a list.
+#![tactic(auto)]
+
 ghost use Rattle.std.specs.Prelude.{◌≡◌, [], ◌≤◌};
 ghost use Rattle.std.proofs.Math.Option.{none};
 ghost use Rattle.logic.specs.Refusals.{refuse, refuse_from};

@@ -1,4 +1,6 @@
 // The form of a refutation's record behind its label: test 10.
+#![tactic(auto)]
+
 ghost use Rattle.std.specs.Prelude.{◌≡◌, Bool, cond, ◌+◌, ◌≤◌, ◌<◌};
 ghost use Rattle.std.proofs.Math.Option.{none};
 ghost use Rattle.logic.specs.Refusals.{unless};

@@ -1,4 +1,6 @@
 // Tests 16 and 17 of a counting step: its rows and what its cells cite.
+#![tactic(auto)]
+
 ghost use Rattle.std.specs.Prelude.{◌≡◌, [], ◌+◌, ◌^◌, ◌<◌, ◌≤◌};
 ghost use Rattle.std.proofs.Math.Option.{none};
 ghost use Rattle.logic.specs.Bounded.{all_below};

@@ -1,4 +1,6 @@
 // Tests 10, 16 and 17 of a refutation's record: the form of its step, what it names, and that its label follows.
+#![tactic(auto)]
+
 ghost use Rattle.std.specs.Prelude.{◌≡◌, [], true, ◌&&◌, ◌*◌, ◌/◌, ◌-◌, ltb, length};
 ghost use Rattle.std.proofs.Math.Option.{none};
 ghost use Rattle.logic.specs.Refusals.{refuse};

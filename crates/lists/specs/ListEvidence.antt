@@ -10,7 +10,8 @@ use Rattle.description.specs.Acceptance.{Accepted}
 use Rattle.evidence.specs.Evidence.{record_count, HeadOk, head_test, head↔, layout_of, record_at}
 use Rattle.evidence.specs.declared.Layout.{Layout}
 use Rattle.refutation.specs.Records.{Closes, RefutationFits}
-use Rattle.refutation.specs.RecordTests.{stored_refutation, refutation_refusal, refutation↔}
+use Rattle.refutation.specs.RecordTests.{stored_refutation, refutation_refusal}
+use Rattle.refutation.proofs.RecordTests.{refutation↔}
 use Rattle.lists.specs.Lists.{refutation_in, refutation_size, RecordForm, record_form_test, record_form↔}
 
 -- 9: the head of a list

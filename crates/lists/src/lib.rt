@@ -1,1 +1,2 @@
 // The refutation that evidence is: definitions alone.
+#![tactic(auto)]

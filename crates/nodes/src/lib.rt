@@ -1,4 +1,6 @@
 // Rules 11 and 12 of a graph's record, on its label.
+#![tactic(auto)]
+
 ghost use Rattle.std.specs.Prelude.{◌≡◌, ◌+◌, ◌-◌, ◌*◌, ◌<◌, length};
 ghost use Rattle.logic.specs.Bounded.{all_below};
 ghost use Rattle.labels.specs.Labels.{most_entries, value_of};

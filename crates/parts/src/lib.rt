@@ -1,4 +1,6 @@
 // Numbers in bytes, and the pairs that say where the parts of a slice lie.
+#![tactic(auto)]
+
 ghost use Rattle.std.specs.Prelude.{◌≡◌, ◌<◌, ◌≤◌, take, drop};
 ghost use Rattle.parts.specs.Numbers.{byte_at, num2, up_to};
 ghost use Rattle.parts.specs.Pairs.{fills, part_at};

@@ -1,1 +1,2 @@
 // Definitions and theorems only, in specs/: refutations (closing lists), their rules, and that they are sound.
+#![tactic(auto)]

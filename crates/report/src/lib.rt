@@ -1,4 +1,6 @@
 // What the program reads and prints: the two parts of its input, and the line of its answer.
+#![tactic(auto)]
+
 ghost use Rattle.std.specs.Prelude.{◌≡◌, ◌+◌, ◌≤◌, length, take, replicate};
 ghost use Rattle.answers.specs.Answers.{of_verdict, over};
 ghost use Rattle.report.specs.Input.{description_in, evidence_in};

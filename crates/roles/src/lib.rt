@@ -1,4 +1,6 @@
 // The role records: each role with its transitive byte, its parents, its ancestors, and whether it is simple.
+#![tactic(auto)]
+
 pub mod disjoint;
 
 ghost use Rattle.std.specs.Prelude.{◌≡◌, cond, eqb, ltb, ℕ, ◌+◌, ◌-◌, ◌*◌, ◌/◌, ◌<◌, ◌≤◌, get_or};

@@ -1,4 +1,6 @@
 // The rows of a counting step: read from the table, held in an array, and lent as a slice.
+#![tactic(auto)]
+
 ghost use Rattle.std.specs.Prelude.{◌≡◌, [], ℕ, ◌<◌, ◌≤◌, ◌^◌, length, get_or, take};
 ghost use Rattle.std.proofs.Math.Option.{none};
 ghost use Rattle.logic.specs.Refusals.{unless};

@@ -1,4 +1,6 @@
 // The public functions for programs in C: an answer as one number.
+#![tactic(auto)]
+
 pub mod edit;
 
 ghost use Rattle.std.specs.Prelude.{◌≡◌, ◌+◌, ◌*◌, length};

@@ -1,4 +1,6 @@
 // What a label carries on to the fillers: the entries "every q l" that make the edges of a transitive role carry "every" on.
+#![tactic(auto)]
+
 ghost use Rattle.std.specs.Prelude.{◌≡◌, cond, ◌&&◌, ◌*◌, ◌%◌, ◌<◌, eqb};
 ghost use Rattle.labels.specs.Labels.{most_entries, value_of, label_with};
 ghost use Rattle.tables.specs.Tables.{fields_at};

@@ -1,4 +1,6 @@
 // The tables of a description, read in place: the fields of an entry, their test, and the concept that they are.
+#![tactic(auto)]
+
 ghost use Rattle.std.specs.Prelude.{◌≡◌, ◌&&◌, ◌<◌, ◌≤◌, eqb, leb, ltb};
 ghost use Rattle.labels.specs.Labels.{most_entries};
 ghost use Rattle.tables.specs.Tables.{entry_count, fields_at, fields_test};

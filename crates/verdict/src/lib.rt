@@ -1,4 +1,6 @@
 // The verdict on a description with evidence.
+#![tactic(auto)]
+
 ghost use Rattle.std.specs.Prelude.{◌≡◌, cond};
 ghost use Rattle.answers.specs.Answers.{refusal_of, of_verdict, answer, INHABITED, EMPTY};
 ghost use Rattle.verdict.specs.Verdict.{verdict};

@@ -1,4 +1,6 @@
 // Sets of numbers below 64, in a word.
+#![tactic(auto)]
+
 ghost use Rattle.std.specs.Prelude.{◌≡◌, ◌&&◌, ltb};
 ghost use Rattle.words.specs.Words.{put_in, pushed};
 

@@ -29,11 +29,11 @@ overflow_add-row c = let p = c.args in
 
 pub loop-x-preserved : goal.loop-x-preserved
 loop-x-preserved c = let v = c.loop-x in (
-      omega arith,
-      omega arith,
-      pass_more c.args.at c.args.n v.x c.args.k _ c.args.buf.now v.buf _ (omega arith) (omega arith) v.invariant.2 _ _
-          v.invariant.1 refl c.join.ensures,
-    )
+  omega arith,
+  omega arith,
+  pass_more c.args.at c.args.n v.x c.args.k _ c.args.buf.now v.buf _ (omega arith) (omega arith) v.invariant.2 _ _
+      v.invariant.1 refl c.join.ensures,
+)
 
 pub shape_of-buf : goal.shape_of-buf
 shape_of-buf c = c.loop-x.invariant.2.whole

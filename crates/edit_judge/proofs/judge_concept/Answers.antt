@@ -7,7 +7,7 @@ use Rattle.edit_lay.specs.Lays.{six_bytes}
 use Rattle.answers.specs.Answers.{of_change}
 use Rattle.edit_state.specs.PlaceLaws.{span_short}
 use Rattle.edit_judge.specs.Judging.{refused_judges}
-use Rattle.edit_judge.specs.ConceptLaws.{last_told, concept_full, concept_4, concept_last}
+use Rattle.edit_judge.proofs.ConceptLaws.{last_told, concept_full, concept_4, concept_last}
 use Rattle.edit_state.specs.Lent.{concepts_from}
 use native.Mathlib.Omega.{arith}
 use Rattle.edit_judge.proofs.judge_concept.Goals as goal

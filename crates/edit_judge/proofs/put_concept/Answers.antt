@@ -6,7 +6,7 @@ use Rattle.edit_lay.specs.Lays.{six_bytes}
 use Rattle.edit_state.specs.RoleLaws.{changed_beyond}
 use Rattle.edit_state.specs.EditLaws.{short_edits, done_edits}
 use Rattle.edit_judge.specs.Judging.{judged_edits, allowed}
-use Rattle.edit_judge.specs.ConceptLaws.{concept_put}
+use Rattle.edit_judge.proofs.ConceptLaws.{concept_put}
 use Rattle.edit_state.specs.Lent.{concepts_from, state_bytes}
 use native.Mathlib.Omega.{arith}
 use Rattle.edit_judge.proofs.put_concept.Goals.{Start}

@@ -1,4 +1,4 @@
-use Rattle.editor.specs.StateLaws.{edits_state}
+use Rattle.editor.proofs.StateLaws.{edits_state}
 use Rattle.editor.proofs.add_rule.Goals as goal
 
 pub returns : goal.returns

@@ -1,6 +1,6 @@
 use mathlib.Core.Path.{ap}
 use lib.ListN.{replicate}
-use Rattle.editor.specs.StateLaws.{starts}
+use Rattle.editor.proofs.StateLaws.{starts}
 use Rattle.edit_state.specs.Lent.{state_bytes}
 use Rattle.editor.proofs.start.Goals as goal
 

@@ -1,4 +1,4 @@
-use Rattle.editor.specs.StateLaws.{writes_state}
+use Rattle.editor.proofs.StateLaws.{writes_state}
 use Rattle.editor.proofs.write_out.Goals as goal
 
 pub returns : goal.returns

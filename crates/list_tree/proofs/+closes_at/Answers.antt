@@ -24,8 +24,8 @@ pub returns-then-next-eq0 : goal.returns-then-next-eq0
 returns-then-next-eq0 t c = let a = c.args in let l = c.low_half in
     let p = put_behind a.way a.n l.result _ (omega (arith, c.requires.2, c.if-left-eq0.false)) c.requires.3 l.ensures in
     closed_first a.ds.now a.k (marked a.marks.now) a.n (limits_held a.k a.way a.n) a.at a.left c.in-Splitting.ensures.0 c.if-left-eq0.false
-        (limits_held a.k (set a.way a.n l.result) (a.n + 1)) c.closes_at-next.result (p.held a.k c.requires.1) c.if-next-eq0.true
-        c.closes_at-next.ensures
+    (limits_held a.k (set a.way a.n l.result) (a.n + 1)) c.closes_at-next.result (p.held a.k c.requires.1) c.if-next-eq0.true
+    c.closes_at-next.ensures
 
 pub high_half-requires : goal.high_half-requires
 high_half-requires t c = let a = c.args in
@@ -46,6 +46,6 @@ returns-else-next-eq0 t c = let a = c.args in let l = c.low_half in let h = c.hi
     let p = put_behind a.way a.n l.result _ few c.requires.3 l.ensures in
     let q = put_again a.way a.n l.result h.result _ few c.requires.3 h.ensures in
     closed_second a.ds.now a.k (marked a.marks.now) a.n (limits_held a.k a.way a.n) a.at a.left c.in-Splitting.ensures.0 c.if-left-eq0.false
-        (limits_held a.k (set a.way a.n l.result) (a.n + 1)) (limits_held a.k (set (set a.way a.n l.result) a.n h.result) (a.n + 1))
-        c.closes_at-next.result c.closes_at.result (p.held a.k c.requires.1) (q.held a.k c.requires.1) c.if-next-eq0.false
-        c.closes_at-next.ensures c.closes_at.ensures
+    (limits_held a.k (set a.way a.n l.result) (a.n + 1)) (limits_held a.k (set (set a.way a.n l.result) a.n h.result) (a.n + 1))
+    c.closes_at-next.result c.closes_at.result (p.held a.k c.requires.1) (q.held a.k c.requires.1) c.if-next-eq0.false
+    c.closes_at-next.ensures c.closes_at.ensures

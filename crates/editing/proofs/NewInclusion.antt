@@ -12,7 +12,7 @@ use Rattle.description.specs.Descriptions.{Description}
 use Rattle.description.specs.Acceptance.{roles_test, simples_test, everys_test}
 use Rattle.editing.specs.Inclusions.{including}
 use Rattle.editing.specs.Editing.{tests, RoleIn, Draft, role_in, describes, role_form, entry_form, query_kept, broken, inclusion, put_in}
-use Rattle.editing.specs.Kept.{Passes, broken_is, role_fine, parents_in, entries_roles}
+use Rattle.editing.proofs.Kept.{Passes, broken_is, role_fine, parents_in, entries_roles}
 
 module _ (T : Draft) (P : Passes T) where
   abbrev D : Description

@@ -21,7 +21,7 @@ use Rattle.description.proofs.Acceptance.{entry↔}
 use Rattle.editing.specs.Inclusions.{ParentsIn}
 use Rattle.editing.specs.Editing.{tests, RoleIn, lone_role, Draft, role_in, describes, role_form, entry_form, query_kept, broken}
 use Rattle.editing.specs.Editing.{new_role, put_in}
-use Rattle.editing.specs.Kept.{Passes, broken_is, all_last, role_fine, parents_in}
+use Rattle.editing.proofs.Kept.{Passes, broken_is, all_last, role_fine, parents_in}
 
 module _ (T : Draft) (P : Passes T) where
   abbrev D : Description

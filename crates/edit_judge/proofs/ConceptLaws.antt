@@ -24,11 +24,11 @@ use Rattle.answers.specs.declared.Change.{Change}
 use Rattle.answers.specs.declared.Change.TheVariants.{Done, Refused}
 use Rattle.answers.specs.Answers.{wholly, answer, DONE, of_change}
 use Rattle.editing.specs.Editing.{Draft, is_set, describes, entry_form, concept, put_in, refusal, Made}
-use Rattle.editing.specs.Kept.{passed, Few, made_few}
-use Rattle.editing.specs.NewConcept.{grown, grows, new_entry, simple_same, distinct_same, entries_last}
-use Rattle.editing.specs.Answers.{concept_answers}
+use Rattle.editing.proofs.Kept.{passed, Few, made_few}
+use Rattle.editing.proofs.NewConcept.{grown, grows, new_entry, simple_same, distinct_same, entries_last}
+use Rattle.editing.proofs.Answers.{concept_answers}
 use Rattle.edit_bytes.specs.Out.{entry_bytes, roles_out, concepts_out, query_out}
-use Rattle.edit_bytes.specs.OutLaws.{concepts_long}
+use Rattle.edit_bytes.proofs.OutLaws.{concepts_long}
 use Rattle.edit_lay.specs.Lays.{six_bytes}
 use Rattle.edit_state.specs.Lent.{roles_room, concepts_room, query_room, concepts_from, filled, flag, in_bytes, draft_bytes, Lends}
 use Rattle.edit_state.specs.Lent.{roles_in, entries_in, table_in, Told}

@@ -19,9 +19,9 @@ use Rattle.description.proofs.Acceptance.{entry↔}
 use Rattle.labels.specs.Labels.{most_entries}
 use Rattle.intake.specs.Intake.{most_roles}
 use Rattle.editing.specs.Editing.{lone_role, Draft, role_in, fields_in, is_set, root_of, describes, role_form, entry_form, Made}
-use Rattle.editing.specs.Kept.{Passes, passed, Few, made_few, role_fine, parents_in, rules_kept}
+use Rattle.editing.proofs.Kept.{Passes, passed, Few, made_few, role_fine, parents_in, rules_kept}
 use Rattle.edit_bytes.specs.Out.{role_bytes, entry_bytes, roles_out, concepts_out, query_out, pair, out_bytes}
-use Rattle.edit_bytes.specs.OutLaws.{roles_long, concepts_long}
+use Rattle.edit_bytes.proofs.OutLaws.{roles_long, concepts_long}
 
 small_two : (n : ℕ) → n < 65536 → Small (two n)
 small_two n h = two_bytes.small n h

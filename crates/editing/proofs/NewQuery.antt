@@ -13,7 +13,7 @@ use Rattle.description.specs.Descriptions.{Description, if_least, if_every}
 use Rattle.description.specs.Roles.{ancestor, simple}
 use Rattle.description.specs.Acceptance.{simples_test, everys_test, literal_test}
 use Rattle.editing.specs.Editing.{tests, Draft, is_set, describes, role_form, entry_form, query_kept, broken, new_root, new_rule, put_in}
-use Rattle.editing.specs.Kept.{Passes, broken_is, all_last, entries_roles, rules_kept}
+use Rattle.editing.proofs.Kept.{Passes, broken_is, all_last, entries_roles, rules_kept}
 
 module _ (T : Draft) (P : Passes T) where
   abbrev D : Description

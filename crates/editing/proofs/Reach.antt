@@ -24,12 +24,12 @@ use Rattle.intake.specs.Intake.{most_roles, most_rules}
 use Rattle.editing.specs.Inclusions.{ParentsIn, including, included↔, still_inside}
 use Rattle.editing.specs.Editing.{RoleIn, lone_role, Draft, role_in, fields_in, is_set, root_of, describes, role_form, entry_form, broken}
 use Rattle.editing.specs.Editing.{new_role, inclusion, concept, new_root, new_rule, put_in, Made, start}
-use Rattle.editing.specs.Kept.{Passes, passes↔, passed, made_kept, Few, made_next, parents_in, entry_roles, rules_kept}
-use Rattle.editing.specs.Kept as Kept
-use Rattle.editing.specs.NewInclusion.{inclusion_broken}
-use Rattle.editing.specs.NewConcept.{grown, new_entry, concept_broken}
-use Rattle.editing.specs.NewRole.{role_broken}
-use Rattle.editing.specs.NewQuery.{root_broken, rule_broken}
+use Rattle.editing.proofs.Kept.{Passes, passes↔, passed, made_kept, Few, made_next, parents_in, entry_roles, rules_kept}
+use Rattle.editing.proofs.Kept as Kept
+use Rattle.editing.proofs.NewInclusion.{inclusion_broken}
+use Rattle.editing.proofs.NewConcept.{grown, new_entry, concept_broken}
+use Rattle.editing.proofs.NewRole.{role_broken}
+use Rattle.editing.proofs.NewQuery.{root_broken, rule_broken}
 
 -- of roles that have no parents, each has itself alone as ancestor
 alone : (D : Description) → ((a s : ℕ) → So (included D a s) → ⊥) → (r s : ℕ) → r < D.roles → So (ancestor D r s) → s ≡ r

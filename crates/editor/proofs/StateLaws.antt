@@ -10,9 +10,9 @@ use Rattle.answers.specs.declared.Change.TheVariants.{Done, Refused}
 use Rattle.answers.specs.declared.Output as Outputs
 use Rattle.answers.specs.Answers.{wholly, answer, DONE, of_change, of_output, size_of}
 use Rattle.editing.specs.Editing.{Draft, role_in, describes, nothing, Edit, put_in, refusal, edited, Made, start, next}
-use Rattle.editing.specs.Kept.{made_few}
+use Rattle.editing.proofs.Kept.{made_few}
 use Rattle.edit_bytes.specs.Out.{roles_out, concepts_out, query_out, out_answer, out_length, out_buffer}
-use Rattle.edit_bytes.specs.OutLaws.{roles_long, byte_of, mask_of_lem, is_described}
+use Rattle.edit_bytes.proofs.OutLaws.{roles_long, byte_of, mask_of_lem, is_described}
 use Rattle.edit_state.specs.Lent as Lent
 use Rattle.edit_state.specs.Lent.{state_bytes, draft_bytes, Lends, roles_in, table_in}
 use Rattle.edit_state.specs.PlaceLaws.{roles_count, table_read}

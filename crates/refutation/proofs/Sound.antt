@@ -1,59 +1,28 @@
 -- Refutations are sound: no element of any finite model has a record's label, so none has all that is wanted.
-use Rattle.std.specs.Prelude.{ℕ, zero, suc, ◌-◌, ◌^◌, ◌≤◌, ◌<◌, ◌≡◌, refl, ◌↔◌, ◌⊎◌, Bool, true, false, not, ◌&&◌, List, length, get_or}
-use Rattle.std.proofs.Common.{sym, ◌∙◌, ap, subst, inl, inr, arith}
-use Rattle.std.proofs.lemmas.Bool.{false≢true}
-use Rattle.std.proofs.Math.Decide.{dec_le}
+use Rattle.std.specs.Prelude.{ℕ, zero, suc, ◌-◌, ◌^◌, ◌≤◌, ◌<◌, ◌≡◌, refl, ◌⊎◌, Bool, List, length}
+use Rattle.std.proofs.Common.{sym, ◌∙◌, subst, inl, inr, arith}
 use Rattle.logic.specs.Tests.{So, decide, so_and, and_l, and_r, or_cases, not_so, so_not}
 use Rattle.logic.specs.Bounded.{any_elim, up_to_lem}
-use Rattle.logic.specs.Lists.{◌∈◌, at_member}
+use Rattle.logic.specs.Lists.{at_member}
 use Rattle.logic.specs.Sums.{count_below}
 use Rattle.logic.specs.Sets.{has, set_of}
 use Rattle.logic.specs.SetLaws.{has_set_of, set_of_lt}
-use Rattle.counting.specs.Trees.{Side, lower, upper, Meets}
-use Rattle.counting.specs.Rows.{bound_at, Fillers}
+use Rattle.counting.specs.Trees.{Meets}
+use Rattle.counting.specs.Rows.{Fillers}
 use Rattle.counting.proofs.Solutions.{closed_no_fillers}
-use Rattle.description.specs.Literals.{Literal, pos, neg, opposite, entry_of, same_literal, same_literal_lem, Label, members, plus, Within}
-use Rattle.description.specs.Descriptions.{Entry, top, name, both, every, at_least, Description, Compatible}
+use Rattle.description.specs.Literals.{Literal, pos, neg, opposite, same_literal_lem, Label, members, plus, Within}
+use Rattle.description.specs.Descriptions.{Description, Compatible}
 use Rattle.description.specs.Acceptance.{Accepted}
 use Rattle.interpretation.specs.Meaning.{Interpretation, truth, holds}
-use Rattle.interpretation.specs.Models.{Model, Satisfies, AllTrue, plus_true, role_up, top_true, both_true, every_true, least_true}
-use Rattle.interpretation.proofs.Models.{opposite_true, every_false}
-use Rattle.refutation.specs.Cells.{Row, positive_row, negative_row, row_of, is_row, row_from, rows_of, row_at, bounds, cell_role, Known, topmost, qualified, denied, passed, onward, length_rows, length_bounds, bound_at_lem, row_at_lem, rows_inside, RowIn}
-use Rattle.refutation.specs.Records.{Cell, unshown, cited, barred, Counting, Step, contradiction, conjunction, disjunction, by_rule, case_split, counting, Refutation, record_at, number_at, cell_at, open_at, is_open, literal_at, CiteOk, StepOk, Cites, in_label, CellFits, CellOk, TreeOk, RecordOk, Closes}
+use Rattle.interpretation.specs.Models.{Model, Satisfies, AllTrue, plus_true, role_up, top_true, both_true, every_true}
+use Rattle.interpretation.proofs.Models.{opposite_true}
+use Rattle.refutation.specs.Cells.{Row, rows_of, row_at, bounds, cell_role, Known, topmost, qualified, denied, passed, onward, length_rows, length_bounds, bound_at_lem, row_at_lem, rows_inside, RowIn}
+use Rattle.refutation.specs.Records.{Cell, unshown, cited, barred, Counting, Step, contradiction, conjunction, disjunction, by_rule, case_split, counting, Refutation, record_at, number_at, cell_at, open_at, is_open, literal_at, CiteOk, StepOk, in_label, CellFits, CellOk, TreeOk, RecordOk, Closes}
+use Rattle.refutation.proofs.RowMet.{in_row, row_met}
 
 -- no element of any model has all of L
 abbrev pub Refuted : Description → Label → Type 0
 Refuted D L = (I : Interpretation) → Model D I → (x : ℕ) → x < I.size → AllTrue D I L x → ⊥
-
--- the fillers of x that count in a row
-abbrev in_row : Description → Interpretation → ℕ → Row → ℕ → Bool
-in_row D I x R y = I.role R.role x y && holds D I R.qualifier y
-
--- a row of a true literal is met by the fillers that count in it
-row_met : (D : Description) → Accepted D → (I : Interpretation) (x : ℕ) (l : Literal) → entry_of l < D.entries → So (is_row (row_of D l)) → So (holds D I l x)
-    → Meets (row_from (row_of D l)).side (row_from (row_of D l)).bound (count_below I.size (in_row D I x (row_from (row_of D l))))
-row_met D A I x (pos e) h r t = go (D.entry e) refl r
-  where
-    go : (k : Entry) → D.entry e ≡ k → So (is_row (positive_row k))
-        → Meets (row_from (positive_row k)).side (row_from (positive_row k)).bound (count_below I.size (in_row D I x (row_from (positive_row k))))
-    go (at_least s l n) q r = (least_true D A I e x s l n h q).0 t
-    go top q r = absurd (false≢true r)
-    go name q r = absurd (false≢true r)
-    go (both a b) q r = absurd (false≢true r)
-    go (every s l) q r = absurd (false≢true r)
-row_met D A I x (neg e) h r t = go (D.entry e) refl r
-  where
-    go : (k : Entry) → D.entry e ≡ k → So (is_row (negative_row k))
-        → Meets (row_from (negative_row k)).side (row_from (negative_row k)).bound (count_below I.size (in_row D I x (row_from (negative_row k))))
-    go (every s l) q r = every_false D A I e x s l h q (not_so _ t)
-    go (at_least s l n) q r = few (dec_le n (count_below I.size (λ y. I.role s x y && holds D I l y)))
-      where
-        few : Dec (n ≤ count_below I.size (λ y. I.role s x y && holds D I l y)) → count_below I.size (λ y. I.role s x y && holds D I l y) ≤ n - 1
-        few (yes g) = absurd (not_so _ t ((least_true D A I e x s l n h q).1 g))
-        few (no g) = omega arith
-    go top q r = absurd (false≢true r)
-    go name q r = absurd (false≢true r)
-    go (both a b) q r = absurd (false≢true r)
 
 -- ---- the fillers of x, by the rows that they count in
 module _ (D : Description) (A : Accepted D) (I : Interpretation) (M : Model D I) (x : ℕ) (hx : x < I.size) (L : Label) (all : AllTrue D I L x)

@@ -15,7 +15,7 @@ use Rattle.description.specs.Roles.{ancestor, simple}
 use Rattle.description.specs.Acceptance.{entries_test, entry_test, simples_test, simple_test, distincts_test, distinct_test, everys_test}
 use Rattle.description.specs.Acceptance.{every_below_test}
 use Rattle.editing.specs.Editing.{tests, Draft, is_set, describes, role_form, entry_form, query_kept, broken, concept, put_in}
-use Rattle.editing.specs.Kept.{Passes, broken_is, all_last, entry_roles, rules_kept}
+use Rattle.editing.proofs.Kept.{Passes, broken_is, all_last, entry_roles, rules_kept}
 
 module _ (T : Draft) (P : Passes T) where
   abbrev D : Description

@@ -13,11 +13,11 @@ use Rattle.description.specs.Acceptance.{entry_test, simples_test, simple_test, 
 use Rattle.labels.specs.Labels.{most_entries}
 use Rattle.intake.specs.Intake.{most_roles, most_rules}
 use Rattle.editing.specs.Editing.{Draft, describes, new_role, inclusion, concept, new_root, new_rule, put_in, refusal, Made}
-use Rattle.editing.specs.Kept.{passed}
-use Rattle.editing.specs.NewInclusion.{includes, inclusion_broken}
-use Rattle.editing.specs.NewConcept.{grows, concept_broken}
-use Rattle.editing.specs.NewRole.{role_broken}
-use Rattle.editing.specs.NewQuery.{root_broken, rule_broken}
+use Rattle.editing.proofs.Kept.{passed}
+use Rattle.editing.proofs.NewInclusion.{includes, inclusion_broken}
+use Rattle.editing.proofs.NewConcept.{grows, concept_broken}
+use Rattle.editing.proofs.NewRole.{role_broken}
+use Rattle.editing.proofs.NewQuery.{root_broken, rule_broken}
 
 module _ (T : Draft) (m : Made T) where
   -- a role: 25, 3

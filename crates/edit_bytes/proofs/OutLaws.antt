@@ -20,13 +20,12 @@ use Rattle.description.specs.Acceptance.{description_tests, literal_test}
 use Rattle.tables.specs.Tables.{fields_at, describe}
 use Rattle.labels.specs.Labels.{most_entries}
 use Rattle.directory.specs.Directory.{four, roles_part, concepts_part, query_part}
-use Rattle.intake.specs.Intake.{described, three_pairs, most_roles, most_rules, sizes_test, records_test, parts_test}
-use Rattle.intake.specs.Intake.{bytes_test}
+use Rattle.intake.specs.Intake.{described, three_pairs, most_roles, most_rules, sizes_test, records_test, parts_test, bytes_test}
 use Rattle.intake.specs.Intake as Bytes
 use Rattle.answers.specs.Answers.{wholly, answer, WRITTEN, told↔}
 use Rattle.editing.specs.Editing.{tests, RoleIn, lone_role, Draft, role_in, fields_in, is_set, root_of, describes, role_form, entry_form, broken}
 use Rattle.editing.specs.Editing.{Made}
-use Rattle.editing.specs.Kept.{broken_is, made_kept, Few, made_few}
+use Rattle.editing.proofs.Kept.{broken_is, made_kept, Few, made_few}
 use Rattle.edit_bytes.specs.Out.{role_bytes, entry_bytes, roles_out, concepts_out, query_out, pair, with_pairs, out_bytes, whole}
 use Rattle.edit_bytes.specs.Out.{out_refused, out_answer}
 

@@ -1,0 +1,4 @@
+pub mod RowMet
+pub mod Sound
+pub mod LiftedRefutation
+pub mod RecordTests
