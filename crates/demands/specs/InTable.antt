@@ -12,7 +12,7 @@ use Rattle.graph.specs.Graphs.{Edge, Node, node_at}
 use Rattle.refutation.specs.Records.{unshown, cited, Step, contradiction, conjunction, disjunction, by_rule, case_split, counting}
 use Rattle.refutation.specs.Records.{Record, record_at, number_at, Formed, CiteOk}
 use Rattle.intake.specs.Intake.{described, AcceptedBytes, accepted_sizes}
-use Rattle.labels.specs.Labels.{literals_fit}
+use Rattle.labels.proofs.Labels.{literals_fit}
 use Rattle.evidence.specs.declared.Layout.{Layout}
 use Rattle.evidence.specs.Evidence.{layout_of, label_size}
 use Rattle.demands.specs.Lifted.{Evidence, sample, refutation, KeepsRules}

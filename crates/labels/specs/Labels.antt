@@ -1,8 +1,7 @@
 -- Labels and name masks as they are stored and as the code holds them (01, "Evidence" and "The written line"; 02, job 2; FORMAT 4, 7).
 use Rattle.std.specs.Prelude.{ℕ, ◌+◌, ◌*◌, ◌^◌, ◌≤◌, ◌<◌, ◌≡◌, Bool, true, false, cond, List, ltb, length}
 use Rattle.std.proofs.Math.Path.{refl}
-use Rattle.std.proofs.Common.{arith, lt-ltb, le-ltb}
-use Rattle.std.proofs.Math.Decide.{dec_le}
+use Rattle.std.proofs.Common.{arith}
 use Rattle.logic.specs.Sets.{with}
 use Rattle.parts.specs.Numbers.{byte_at, num2, past}
 use Rattle.labels.specs.Blocks.{block, block_lt}
@@ -128,10 +127,3 @@ module _ (s : List ℕ) (at : ℕ) (broad : Bool) where
   pub names_narrow : (a : ℕ) → broad ≡ false → a ≡ num4 s at → a ≡ names_in broad s at
   unfolding names_in
   names_narrow a e h = rw e h
-
--- the literals of a table have room in the bytes of its labels
-pub literals_fit : (n : ℕ) → n ≤ most_entries → 2 * n ≤ 8 * label_bytes (wide n)
-literals_fit n h = elim (dec_le n most_narrow) [
-  | yes q ↦ (let z = bytes_narrow (wide n) (le-ltb most_narrow n q) in omega arith)
-  | no q ↦ (let p : most_narrow < n = omega arith in let z = bytes_wide (wide n) (lt-ltb most_narrow n p) in omega arith)
-]
