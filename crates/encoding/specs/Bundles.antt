@@ -12,7 +12,8 @@ use Rattle.parts.specs.Numbers.{byte_at}
 use Rattle.parts.specs.Pairs.{offset_at, length_at, begin_at, Fills, pair_inside}
 use Rattle.evidence.specs.Evidence.{HeadOk, most_records, record_count, record_at}
 use Rattle.laying.specs.Places.{Stands, stands_end, stands_in, first, second, part, stands_part, stands_append, stands_more, stands_whole, before, stands_piece, before_next, before_all, before_even, stands_flatten, read_off, at_map, each_map, map_tabulate, Small, small_more, small_append, small_flatten, small_in}
-use Rattle.laying.specs.Numbers.{two, two_bytes}
+use Rattle.laying.specs.Numbers.{two}
+use Rattle.laying.proofs.Numbers.{two_bytes}
 
 -- where record i begins: behind the head, the pairs and the records before it
 abbrev pub start : List (List ℕ) → ℕ → ℕ

@@ -11,7 +11,8 @@ use Rattle.graph.specs.Graphs.{Edge, Node}
 use Rattle.evidence.specs.declared.Layout.{Layout}
 use Rattle.evidence.specs.Evidence.{label_size, edge_in, edges_in, node_in, most_edges, NodeForm}
 use Rattle.laying.specs.Places.{Stands, first, second, byte, stands_append, stands_more, stands_whole, before, stands_piece, before_all, before_even, stands_flatten, read_off, at_map, each_map, each_value, Small, small_more, small_append, small_flatten, small_at, small_drop}
-use Rattle.laying.specs.Numbers.{two, label, two_bytes, label_bytes_lem, label_back, label_behind, label_again}
+use Rattle.laying.specs.Numbers.{two, label}
+use Rattle.laying.proofs.Numbers.{two_bytes, label_bytes_lem, label_back, label_behind, label_again}
 
 -- the target, the mask, the count
 abbrev pub encode_edge : Edge → List ℕ

@@ -19,7 +19,8 @@ use Rattle.list_form.specs.declared.Node.{Node}
 use Rattle.list_form.specs.declared.Node.TheVariants.{Leaf, Split, Off}
 use Rattle.list_form.specs.ListForm.{Placed, and_then, given, bytes_at, node_in, by_node, leaf_in, tree_in}
 use Rattle.laying.specs.Places.{Stands, first, second, byte, stands_append, stands_more, read_off, map_tabulate, Small, small_more, small_append, small_at, small_in}
-use Rattle.laying.specs.Numbers.{two, two_bytes}
+use Rattle.laying.specs.Numbers.{two}
+use Rattle.laying.proofs.Numbers.{two_bytes}
 
 -- a leaf is 0 and its multipliers; a split is 1, its cell, its value, its first half and its second
 unfoldable pub encode_tree : Tree → List ℕ
