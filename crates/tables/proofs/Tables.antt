@@ -9,7 +9,7 @@ use Rattle.labels.specs.Labels.{most_entries}
 use Rattle.description.specs.Literals.{literal, entry_of, code_literal, code_entry}
 use Rattle.description.specs.Descriptions.{Entry, top, name, both, every, at_least, Disjoint, Description, Fields, fields_of, entry_of_fields}
 use Rattle.description.specs.Acceptance.{greatest_number, EntryOk}
-use Rattle.tables.specs.Tables.{FieldsOk, fields_of, field_test, fields_test, greatest_number}
+use Rattle.tables.specs.Tables.{FieldsOk, field_test, fields_test}
 
 made : ℕ → ℕ → ℕ → ℕ → ℕ → Fields
 made k r a b n = record { kind = k; role = r; first = a; second = b; number = n }
