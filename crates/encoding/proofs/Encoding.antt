@@ -18,9 +18,12 @@ use Rattle.list_form.specs.FormLaws.{form_fine}
 use Rattle.lists.specs.Lists.{step_from, step_behind, record_in, refutation_in, RecordForm}
 use Rattle.laying.specs.Places.{before_between, each_map, each_value, Small, small_append, small_at, small_drop}
 use Rattle.laying.specs.Numbers.{label, label_bytes_lem, label_back, label_behind, label_again}
-use Rattle.encoding.specs.Bundles.{bundle, Fits, bundle_kind, bundle_head, bundle_small, each_record, records_back, records_in, part_small, records_again, bundle_again, bundle_fits}
-use Rattle.encoding.specs.Nodes.{encode_node, NodeWidth, node_back, node_length, node_form_lem, node_small, node_again, node_width}
-use Rattle.encoding.specs.Steps.{encode_step, step_back, step_small, StepAgain, step_again}
+use Rattle.encoding.specs.Bundles.{bundle, Fits, records_in}
+use Rattle.encoding.proofs.Bundles.{bundle_kind, bundle_head, bundle_small, each_record, records_back, part_small, records_again, bundle_again, bundle_fits}
+use Rattle.encoding.specs.Nodes.{encode_node, NodeWidth}
+use Rattle.encoding.proofs.Nodes.{node_back, node_length, node_form_lem, node_small, node_again, node_width}
+use Rattle.encoding.specs.Steps.{encode_step}
+use Rattle.encoding.proofs.Steps.{step_back, step_small, StepAgain, step_again}
 use Rattle.encoding.specs.Encoding.{encode_graph, GraphStored, encode_record, encode_refutation, RecordWidth, RefutationStored}
 
 module _ (f : Layout) (G : Graph) (w : GraphStored f G) where
