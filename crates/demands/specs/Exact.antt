@@ -17,7 +17,8 @@ use Rattle.graph_check.specs.GraphEvidence.{GraphKept, kept↔}
 use Rattle.lines.specs.Lines.{name_size, line_length, most_elements}
 use Rattle.line_writer.specs.Writing.{write_answer, written↔}
 use Rattle.lists.specs.Lists.{refutation_in}
-use Rattle.lists.specs.ListEvidence.{ListKept, list_kept↔}
+use Rattle.lists.specs.ListEvidence.{ListKept}
+use Rattle.lists.proofs.ListEvidence.{list_kept↔}
 use Rattle.answers.specs.declared.Verdict.{Verdict}
 use Rattle.answers.specs.declared.Verdict.TheVariants.{Inhabited, Empty}
 use Rattle.answers.specs.Answers as Case

@@ -23,7 +23,8 @@ use Rattle.encoding.specs.Bundles.{start, bundle}
 use Rattle.encoding.specs.Trees.{encode_tree}
 use Rattle.encoding.specs.Steps.{encode_cell, encode_step, CellWidth}
 use Rattle.encoding.specs.Nodes.{encode_node, EdgeWidth, NodeWidth}
-use Rattle.encoding.specs.Encoding.{encode_graph, GraphStored, graph_stored, encode_record, encode_refutation, RecordWidth, RefutationStored, refutation_stored}
+use Rattle.encoding.specs.Encoding.{encode_graph, GraphStored, encode_record, encode_refutation, RecordWidth, RefutationStored}
+use Rattle.encoding.proofs.Encoding.{graph_stored, refutation_stored}
 
 -- a label by its literals
 abbrev set : List ℕ → ℕ
