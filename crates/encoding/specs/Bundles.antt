@@ -1,21 +1,3 @@
-<<<<<<< HEAD
--- Records under a head (01, "Evidence"; FORMAT 4), that they are read back, and that they are written again as they were read.
-use Prim.Native.Nat.{ℕ, zero, suc, ◌+◌, ◌*◌, ◌≤◌, ◌<◌}
-use Rattle.std.specs.Prelude.{◌≡◌, get_or, drop}
-use Rattle.std.proofs.Math.Path.{refl, ap, subst}
-use Rattle.std.proofs.Common.{sym, ◌∙◌, length-drop, length-take-le}
-use mathlib.Core.List.{List, [], ◌∷◌, ◌++◌, map, flatten}
-use native.Mathlib.Omega.{arith}
-use Rattle.std.proofs.Math.ListN.{length, length-append}
-use Rattle.std.proofs.lemmas.List.{length-map}
-use Rattle.logic.specs.Lists.{◌∈◌, tabulate, length_tabulate, at_tabulate, tabulate_cong, at_member, member_at}
-use Rattle.parts.specs.Numbers.{byte_at}
-use Rattle.parts.specs.Pairs.{offset_at, length_at, begin_at, Fills, pair_inside}
-use Rattle.evidence.specs.Evidence.{HeadOk, most_records, record_count, record_at}
-use Rattle.laying.specs.Places.{Stands, stands_end, stands_in, first, second, part, stands_part, stands_append, stands_more, stands_whole, before, stands_piece, before_next, before_all, before_even, stands_flatten, read_off, at_map, each_map, map_tabulate, Small, small_more, small_append, small_flatten, small_in}
-use Rattle.laying.specs.Numbers.{two}
-use Rattle.laying.proofs.Numbers.{two_bytes}
-=======
 -- Records under a head (01, "Evidence"; FORMAT 4). That they are read back, and written again as they were read, is in proofs/Bundles.
 use Prim.Native.Nat.{ℕ, ◌+◌, ◌*◌, ◌≤◌, ◌<◌}
 use Rattle.std.specs.Prelude.{get_or}
@@ -25,7 +7,6 @@ use Rattle.logic.specs.Lists.{tabulate}
 use Rattle.evidence.specs.Evidence.{most_records, record_count, record_at}
 use Rattle.laying.specs.Places.{before}
 use Rattle.laying.specs.Numbers.{two}
->>>>>>> e85e1a098149433bceb48da843e58a66a9828e12
 
 -- where record i begins: behind the head, the pairs and the records before it
 abbrev pub start : List (List ℕ) → ℕ → ℕ

@@ -9,23 +9,11 @@ use Rattle.graph.specs.Graphs.{Node, Graph}
 use Rattle.refutation.specs.Records.{Record, Refutation}
 use Rattle.refutation.specs.RecordTests.{stored_refutation, record_form}
 use Rattle.evidence.specs.declared.Layout.{Layout}
-<<<<<<< HEAD
-use Rattle.evidence.specs.Evidence.{label_size, most_records, most_edges, HeadOk, record_count, record_at, node_in, graph_in, graph_size, NodeForm}
-use Rattle.list_form.specs.ListForm.{step_in}
-use Rattle.list_form.specs.FormLaws.{form_fine}
-use Rattle.lists.specs.Lists.{step_from, step_behind, record_in, refutation_in, RecordForm}
-use Rattle.laying.specs.Places.{before_between, each_map, each_value, Small, small_append, small_at, small_drop}
-use Rattle.laying.specs.Numbers.{label}
-use Rattle.laying.proofs.Numbers.{label_bytes_lem, label_back, label_behind, label_again}
-use Rattle.encoding.specs.Bundles.{bundle, Fits, records_in}
-use Rattle.encoding.proofs.Bundles.{bundle_kind, bundle_head, bundle_small, each_record, records_back, part_small, records_again, bundle_again, bundle_fits}
-use Rattle.encoding.specs.Nodes.{encode_node, NodeWidth}
-use Rattle.encoding.proofs.Nodes.{node_back, node_length, node_form_lem, node_small, node_again, node_width}
-use Rattle.encoding.specs.Steps.{encode_step, StepWidth}
-use Rattle.encoding.proofs.Steps.{step_back, step_small, StepAgain, step_again}
-=======
 use Rattle.evidence.specs.Evidence.{label_size, most_records}
->>>>>>> e85e1a098149433bceb48da843e58a66a9828e12
+use Rattle.laying.specs.Numbers.{label}
+use Rattle.encoding.specs.Bundles.{bundle, Fits}
+use Rattle.encoding.specs.Nodes.{encode_node, NodeWidth}
+use Rattle.encoding.specs.Steps.{encode_step, StepWidth}
 
 -- ---- graphs: kind 1
 abbrev pub encode_graph : Layout → Graph → List ℕ

@@ -5,15 +5,8 @@ use mathlib.Core.List.{List, ◌∷◌, ◌++◌, map, flatten}
 use Rattle.logic.specs.Lists.{◌∈◌}
 use Rattle.graph.specs.Graphs.{Edge, Node}
 use Rattle.evidence.specs.declared.Layout.{Layout}
-<<<<<<< HEAD
-use Rattle.evidence.specs.Evidence.{label_size, edge_in, edges_in, node_in, most_edges, NodeForm}
-use Rattle.laying.specs.Places.{Stands, first, second, byte, stands_append, stands_more, stands_whole, before, stands_piece, before_all, before_even, stands_flatten, read_off, at_map, each_map, each_value, Small, small_more, small_append, small_flatten, small_at, small_drop}
-use Rattle.laying.specs.Numbers.{two, label}
-use Rattle.laying.proofs.Numbers.{two_bytes, label_bytes_lem, label_back, label_behind, label_again}
-=======
 use Rattle.evidence.specs.Evidence.{label_size, most_edges}
 use Rattle.laying.specs.Numbers.{two, label}
->>>>>>> e85e1a098149433bceb48da843e58a66a9828e12
 
 -- the target, the mask, the count
 abbrev pub encode_edge : Edge → List ℕ
