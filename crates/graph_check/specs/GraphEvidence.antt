@@ -47,8 +47,3 @@ kept↔ D W s = simp (refuse↔, unless↔, records↔, reading, head↔, node_f
       record { head = t.0.0.0; is_graph = t.0.0.1; formed = λ x h. (t.1.0 x h).0; fits = g.1; keeps = g.0 },
   λ k. (((k.head, k.is_graph), refl), (λ x h. (k.formed x h, refl), ((graph↔ stored_graph D W (graph_in (layout_of D) s)).1 (k.keeps, k.fits)).1)),
 )
-
--- none of 1 to 15 and 26 refuses exactly if the description is accepted, too
-pub not_refused↔ : (d s : List ℕ) → (graph_refused d s ≡ none) ↔ (AcceptedBytes d × GraphKept (described d) (wanted (described d)) s)
-unfolding graph_refused
-not_refused↔ d s = simp (refuse↔, accepted_bytes↔, kept↔) (λ t. t, λ t. t)

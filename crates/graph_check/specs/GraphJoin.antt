@@ -118,11 +118,3 @@ unfolding graph_code graph_tests
 graph_is rs cs qs p a W s masks e = refuse_then 0 (unless (graph_head s) 9 none) _ _ (λ h.
     forms_are rs cs qs p a masks (parts_accepted rs cs qs p e) W s
     ((head↔ s).0 (and_l (head_test s) _ ((unless↔ (graph_head s) 9 none).0 h).0)))
-
--- the same where the root is wanted
-pub sample_is : (rs cs qs : List ℕ) (p : Option (List ℕ)) (a : List ℕ) (s : List ℕ) → MasksOf rs (records_in p) a
-    → parts_test rs cs qs p ≡ none
-    → graph_code a (role_count rs) cs qs (root_set qs) s ≡ graph_tests (describe rs cs qs p) (wanted (describe rs cs qs p)) s
-sample_is rs cs qs p a s masks e = let k = parts_accepted rs cs qs p e in
-    ap (λ M. graph_code a (role_count rs) cs qs M s) (root_is rs cs qs p k.1 k.2.root_in)
-    ∙ graph_is rs cs qs p a (wanted (describe rs cs qs p)) s masks e

@@ -27,7 +27,7 @@ use Rattle.evidence.specs.InPlace.{edges_behind, edges_few}
 use Rattle.graph.specs.Line.{copies, line}
 use Rattle.graph_check.specs.GraphEvidence.{graph_head, graph_tests, graph_refused, GraphKept, kept↔}
 use Rattle.graph_check.specs.GraphSteps.{layout_in, graph_code}
-use Rattle.graph_check.specs.GraphJoin.{sample_is}
+use Rattle.graph_check.proofs.GraphJoin.{sample_is}
 use Rattle.line_writer.specs.Writing.{room_test, write_refused, write_answer, write_length, buffer_after}
 use Rattle.line_writer.specs.WriteSteps.{transitives_in}
 use Rattle.line_writer.specs.WriteBytes.{LaidLine, laid_line}

@@ -10,7 +10,8 @@ use Rattle.lines.specs.Lines.{name_size, line_length, most_elements, line_bytes}
 use Rattle.description.specs.Descriptions.{wanted}
 use Rattle.intake.specs.Intake.{described, AcceptedBytes}
 use Rattle.evidence.specs.Evidence.{layout_of, graph_in}
-use Rattle.graph_check.specs.GraphEvidence.{graph_refused, GraphKept, not_refused↔}
+use Rattle.graph_check.specs.GraphEvidence.{graph_refused, GraphKept}
+use Rattle.graph_check.proofs.GraphEvidence.{not_refused↔}
 use Rattle.answers.specs.declared.Written.{Written}
 use Rattle.answers.specs.declared.Written.TheVariants.{Line}
 use Rattle.answers.specs.Answers as Case

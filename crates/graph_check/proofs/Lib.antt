@@ -1,0 +1,2 @@
+pub mod GraphEvidence
+pub mod GraphJoin
