@@ -5,7 +5,8 @@ use Rattle.std.specs.Int.Bits.{bit_and, bit_or, and_lt, and_zero_r, or_zero_r}
 use Rattle.std.proofs.lemmas.Nat.{and_block, or_block}
 use Rattle.parts.specs.Numbers.{byte_at, num2}
 use Rattle.lines.specs.Numerals.{Bytes}
-use Rattle.lines.specs.Laying.{Masks, put2, laid_rest, mask_more, two_local}
+use Rattle.lines.specs.Laying.{Masks}
+use Rattle.lines.proofs.Laying.{put2, laid_rest, mask_more, two_local}
 
 -- two rows of n masks lie in `long` bytes, and the second is the first, or behind it, or wholly before it
 pub record RowsLie (at from n long : ℕ) : Type 0 where

@@ -20,7 +20,8 @@ use Rattle.description.specs.Descriptions.{Description, wanted}
 use Rattle.interpretation.specs.Meaning.{Interpretation}
 use Rattle.graph.specs.Graphs.{Graph}
 use Rattle.refutation.specs.Records.{Step, Refutation}
-use Rattle.evidence.specs.Evidence.{layout_of, label_size, record_count, HeadOk, head↔, record_at, edges_in, label_of, edges_part, graph_in, most_edges, NodeForm, node_form_test, other_width}
+use Rattle.evidence.specs.Evidence.{layout_of, label_size, record_count, HeadOk, head↔, record_at, edges_in, label_of, edges_part, graph_in, most_edges, NodeForm, node_form_test}
+use Rattle.evidence.proofs.OtherWidth.{other_width}
 use Rattle.list_form.specs.ListForm.{step_in}
 use Rattle.lists.specs.Lists.{step_from, refutation_in, RecordForm}
 use Rattle.laying.specs.Numbers.{eight, label}

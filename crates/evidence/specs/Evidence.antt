@@ -121,12 +121,6 @@ pub node_form↔ : (f : Layout) (n : ℕ) → So (node_form_test f n) ↔ NodeFo
 unfolding node_form_test
 node_form↔ f n = simp reading Iff.rfl
 
--- a record of one width, with whole edges behind its label, is none of the other width
-pub other_width : (b : Bool) (m : ℕ)
-    → (node_form_test (record { wide = true; marks = b }) (8 + 5 * m) ≡ false) × (node_form_test (record { wide = false; marks = b }) (16 + 5 * m) ≡ false)
-unfolding label_bytes
-other_width b m = (so_false _ (λ h. let k = (node_form↔ _ _).0 h in omega arith), so_false _ (λ h. let k = (node_form↔ _ _).0 h in omega arith))
-
 pub label_read : (f : Layout) (s : List ℕ) (i N at : ℕ) → at ≡ offset_at s 2 i → N ≡ label_in f.wide s at → N ≡ label_of f s i
 unfolding label_of
 label_read f s i N at p q = rw (← p) q

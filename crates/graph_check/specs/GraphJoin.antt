@@ -19,11 +19,12 @@ use Rattle.intake.specs.Intake.{AcceptedParts, parts_test, parts_accepted}
 use Rattle.labels.specs.Labels.{most_entries}
 use Rattle.evidence.specs.declared.Layout.{Layout}
 use Rattle.evidence.specs.Evidence.{record_count, layout_of, most_edges, HeadOk, head_test, head↔, record_at, edges_in, edges_part, graph_in, graph_size, edges_size, NodeForm, node_form_test, node_form↔, label_of}
-use Rattle.evidence.specs.InPlace.{record_length, label_there, edges_there, edges_few}
+use Rattle.evidence.proofs.InPlace.{record_length, label_there, edges_there, edges_few}
 use Rattle.graph.specs.Graphs.{label_at, node_at, edges_at, wanted_at}
 use Rattle.graph.specs.GraphTests.{stored_graph, label_test, both_test, edge_test, node_refusal, node_form, graph_refusal}
 use Rattle.nodes.specs.NodeSteps.{label_code, required_set, label_is, root_set, root_is, both_at, both_is}
-use Rattle.edges.specs.EdgeSteps.{edges_code, edges_are}
+use Rattle.edges.specs.EdgeSteps.{edges_code}
+use Rattle.edges.proofs.EdgeSteps.{edges_are}
 use Rattle.fillers.specs.FillerLaws.{everys_are, counts_are}
 use Rattle.graph_check.specs.GraphEvidence.{graph_head, form_at, graph_tests}
 use Rattle.graph_check.specs.GraphSteps.{form_of, need_of, node_tests, record_code, records_code, graph_code}

@@ -9,7 +9,7 @@ use Rattle.description.specs.Literals.{Literal, entry_of}
 use Rattle.graph.proofs.Sound.{graph_sound}
 use Rattle.lines.specs.Lines.{wide_names, line_byte, line_bytes, line_in}
 use Rattle.lines.specs.Alike.{model_alike, satisfies_alike}
-use Rattle.lines.specs.LineLaws.{back, back_ok}
+use Rattle.lines.proofs.LineLaws.{back, back_ok}
 use Rattle.intake.specs.Intake.{described, AcceptedBytes, accepted_sizes}
 use Rattle.evidence.specs.Evidence.{layout_of, graph_in}
 use Rattle.line_reader.specs.Reading.{read_answer, holds↔}

@@ -22,16 +22,19 @@ use Rattle.roles.specs.Records.{MasksOf, masks_above, masks_transitive}
 use Rattle.labels.specs.Labels.{most_entries, name_bytes, names_in, mask_some}
 use Rattle.evidence.specs.declared.Layout.{Layout}
 use Rattle.evidence.specs.Evidence.{record_count, HeadOk, record_at, label_of, edges_part, graph_in, graph_size, NodeForm}
-use Rattle.evidence.specs.InPlace.{label_there, edges_there, edges_few}
-use Rattle.copies.specs.Copying.{owner_mask, owner_is}
+use Rattle.evidence.proofs.InPlace.{label_there, edges_there, edges_few}
+use Rattle.copies.specs.Copying.{owner_mask}
+use Rattle.copies.proofs.Copying.{owner_is}
 use Rattle.closing.specs.Closing.{mask_at, closed_mask, closed_byte}
 use Rattle.graph.specs.Graphs.{Graph, Keeps}
 use Rattle.graph.specs.Line.{copies, joins, direct, line}
 use Rattle.graph.proofs.Copies.{copies_pos}
 use Rattle.lines.specs.Lines.{wide_names, name_size, name_at, line_length, name_mask, role_mask, byte_of, line_byte, pair_byte, line_bytes}
-use Rattle.lines.specs.LineLaws.{pair_below, pair_row, pair_column, name_next, byte_size, byte_names, byte_pairs, written}
-use Rattle.lines.specs.Numerals.{Bytes, names}
-use Rattle.lines.specs.Laying.{Laid, Masks, Names, names_local, laid_one}
+use Rattle.lines.proofs.LineLaws.{pair_below, pair_row, pair_column, name_next, byte_size, byte_names, byte_pairs, written}
+use Rattle.lines.specs.Numerals.{Bytes}
+use Rattle.lines.proofs.Numerals.{names}
+use Rattle.lines.specs.Laying.{Laid, Masks, Names}
+use Rattle.lines.proofs.Laying.{names_local, laid_one}
 use Rattle.graph_check.specs.GraphSteps.{layout_in}
 use Rattle.line_writer.specs.WriteSteps.{names_of, element_names, transitives_in, direct_masks}
 use Rattle.line_writer.specs.WriteJoin.{closed_is}

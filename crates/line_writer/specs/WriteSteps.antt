@@ -1,18 +1,18 @@
 -- The bytes that the code writes, place by place: from the evidence, before the roles are closed.
 use Rattle.std.specs.Prelude.{ℕ, zero, suc, ◌+◌, ◌*◌, ◌/◌, ◌%◌, ◌^◌, ◌≤◌, ◌<◌, ◌≡◌, refl, Bool, cond, ◌&&◌, List, eqb, ltb, length, get_or}
 use Rattle.std.proofs.Common.{◌∙◌, ap, subst, arith, mul-le-mul_left, mul-le-mul_right, suc-mul, zero-mul, mod-eq_of_lt, add-one, ne_eqb, lt-ltb, le-ltb, pow_mono}
-use Rattle.lines.specs.LineLaws.{pair_row, pair_column, name_room}
+use Rattle.lines.proofs.LineLaws.{pair_row, pair_column, name_room}
 use Rattle.std.proofs.Math.Decide.{dec_lt}
 use Rattle.logic.specs.Sets.{has, set_of}
 use Rattle.logic.specs.SetLaws.{set_of_lt}
 use Rattle.parts.specs.Numbers.{byte_at, num2, up_to}
 use Rattle.description.specs.Descriptions.{entry_from, entry_of_fields, is_name}
-use Rattle.tables.specs.Tables.{fields_at}
-use Rattle.tables.specs.Tables.{entry_count}
+use Rattle.tables.specs.Tables.{fields_at, entry_count}
 use Rattle.labels.specs.Labels.{most_entries, wide, name_bytes}
 use Rattle.evidence.specs.declared.Layout.{Layout}
 use Rattle.evidence.specs.Evidence.{label_of, edges_part}
-use Rattle.lines.specs.Laying.{Masks, two_local, laid_none, laid_append}
+use Rattle.lines.specs.Laying.{Masks}
+use Rattle.lines.proofs.Laying.{two_local, laid_none, laid_append}
 use Rattle.copies.specs.Copying.{owner_mask}
 
 -- the name entries of the table that a label N has

@@ -1,5 +1,4 @@
 pub mod Lines
 pub mod Alike
 pub mod Numerals
-pub mod LineLaws
 pub mod Laying

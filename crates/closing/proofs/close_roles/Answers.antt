@@ -1,6 +1,7 @@
 use mathlib.Core.Path.{◌∙◌, refl}
 use native.Mathlib.Omega.{arith}
-use Rattle.closing.specs.Steps.{small, closed_short, closed_bytes}
+use Rattle.closing.specs.Steps.{small}
+use Rattle.closing.proofs.Steps.{closed_short, closed_bytes}
 use Rattle.closing.proofs.close_roles.Goals as goal
 
 pub returns-then-buf-at : goal.returns-then-buf-at

@@ -1,5 +1,5 @@
 use Rattle.closing.specs.Steps.{small, raise_more}
-use Rattle.lines.specs.Laying.{laid_none, two_local}
+use Rattle.lines.proofs.Laying.{laid_none, two_local}
 use lib.ListN.{length-set}
 use native.Mathlib.Omega.{arith}
 use mathlib.Core.Path.{◌≡◌, refl}

@@ -4,8 +4,9 @@ use native.Mathlib.Omega.{arith}
 use native.Mathlib.Nat.{mul-suc}
 use native.Mathlib.Numerals.{add-one}
 use Rattle.labels.specs.Labels.{name_bytes, names_in}
-use Rattle.lines.specs.LineLaws.{name_next}
-use Rattle.lines.specs.Laying.{Names, names_local, laid_none, laid_more}
+use Rattle.lines.proofs.LineLaws.{name_next}
+use Rattle.lines.specs.Laying.{Names}
+use Rattle.lines.proofs.Laying.{names_local, laid_none, laid_more}
 use Rattle.line_writer.specs.WriteSteps.{names_of, element_names}
 use Rattle.line_writer.proofs.lay_names.Goals as goal
 

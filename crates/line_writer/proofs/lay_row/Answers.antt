@@ -1,5 +1,5 @@
 use Rattle.line_writer.specs.WriteSteps.{row_masks, copy_next, copy_least, copy_mask}
-use Rattle.lines.specs.Laying.{two_local, laid_none, laid_more}
+use Rattle.lines.proofs.Laying.{two_local, laid_none, laid_more}
 use Rattle.parts.specs.Numbers.{num2}
 use native.Mathlib.Omega.{arith}
 use mathlib.Core.Path.{◌≡◌}

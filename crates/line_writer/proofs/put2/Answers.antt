@@ -1,4 +1,4 @@
-use Rattle.lines.specs.Laying.{laid_two}
+use Rattle.lines.proofs.Laying.{laid_two}
 use native.Mathlib.Omega.{arith}
 use lib.ListN.{length-set}
 use Rattle.line_writer.proofs.put2.Goals as goal

@@ -2,8 +2,8 @@ use Prim.Native.Nat.{◌-◌}
 use mathlib.Core.Path.{◌≡◌}
 use native.Mathlib.Omega.{arith}
 use Rattle.labels.specs.Labels.{name_bytes}
-use Rattle.lines.specs.Laying.{ending_none, ending_more, ending_all, rest_none, rest_more}
-use Rattle.lines.specs.Numerals.{names}
+use Rattle.lines.proofs.Laying.{ending_none, ending_more, ending_all, rest_none, rest_more}
+use Rattle.lines.proofs.Numerals.{names}
 use Rattle.line_writer.proofs.put_names.Goals as goal
 
 pub loop-i-init : goal.loop-i-init

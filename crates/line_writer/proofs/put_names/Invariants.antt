@@ -1,7 +1,7 @@
 use Prim.Native.Nat.{◌-◌, ◌/◌, ◌^◌, ◌≤◌}
 use mathlib.Core.Path.{◌≡◌}
 use Rattle.labels.specs.Labels.{name_bytes}
-use Rattle.lines.specs.Laying.{Ending}
+use Rattle.lines.proofs.Laying.{Ending}
 use Rattle.line_writer.proofs.put_names.Given as goal
 
 abbrev pub invariant-loop-i : goal.invariant-loop-i

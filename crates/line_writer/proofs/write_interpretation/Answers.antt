@@ -1,6 +1,6 @@
 use mathlib.Core.Path.{◌∙◌, sym, ap}
 use Rattle.answers.specs.Answers.{refusal_of}
-use Rattle.line_writer.specs.WriteOrder.{write_opened, write_refused_lem}
+use Rattle.line_writer.proofs.WriteOrder.{write_opened, write_refused_lem}
 use Rattle.line_writer.proofs.write_interpretation.Goals as goal
 
 pub returns-in-Fine : goal.returns-in-Fine

@@ -1,7 +1,7 @@
 use Prim.Native.Nat.{◌-◌}
 use native.Mathlib.Omega.{arith}
 use Rattle.line_reader.specs.LineSteps.{pair_in, row_bit}
-use Rattle.lines.specs.Numerals.{two}
+use Rattle.lines.proofs.Numerals.{two}
 use Rattle.parts.specs.Numbers.{num2}
 use Rattle.words.specs.Words.{push_none, push_more, push_done}
 use Rattle.line_reader.proofs.pairs.row_set.Goals as goal

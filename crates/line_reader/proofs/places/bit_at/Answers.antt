@@ -2,7 +2,7 @@ use Prim.Native.Nat.{◌%◌}
 use mathlib.Core.Path.{◌∙◌, ap, sym}
 use native.Mathlib.Omega.{arith}
 use Rattle.logic.specs.Sets.{has}
-use Rattle.lines.specs.Numerals.{bit_byte, bit_past}
+use Rattle.lines.proofs.Numerals.{bit_byte, bit_past}
 use Rattle.line_reader.proofs.places.bit_at.Goals as goal
 
 pub returns-then-w-before : goal.returns-then-w-before

@@ -1,7 +1,8 @@
 use mathlib.Core.Path.{◌∙◌, ap, sym, subst}
 use Rattle.logic.specs.Sets.{has}
 use Rattle.labels.specs.Labels.{names_in}
-use Rattle.lines.specs.Numerals.{Numeral, names}
+use Rattle.lines.specs.Numerals.{Numeral}
+use Rattle.lines.proofs.Numerals.{names}
 use Rattle.line_reader.proofs.truth.named.Goals as goal
 
 pub returns : goal.returns

@@ -17,7 +17,7 @@ use Rattle.description.specs.Descriptions.{Description, name, is_name}
 use Rattle.interpretation.specs.Meaning.{Interpretation}
 use Rattle.lines.specs.Lines.{wide_names, name_size, name_at, pair_at, line_length, elements, names_at, line_in, LineOk, most_elements}
 use Rattle.lines.specs.Lines.{name_mask, role_mask, byte_of, pair_byte, line_byte, line_bytes}
-use Rattle.lines.specs.Numerals.{two, names}
+use Rattle.lines.proofs.Numerals.{two, names}
 use Rattle.lines.specs.Alike.{Alike}
 
 -- ---- places
