@@ -131,6 +131,7 @@ pub fn file_space() -> [u8; 1048576]
 }
 
 // One more at place `k`, up to a million, which no file has.
+#[tactic(auto, using(crate::specs::Rows::counted_more, crate::specs::Rows::counted_full, crate::specs::Rows::counted_past))]
 pub fn count(counts: &mut [u64], k: usize)
     ensures { counts.new ≡ counted counts.old k }
 {
