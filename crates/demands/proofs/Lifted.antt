@@ -10,7 +10,8 @@ use Rattle.intake.specs.Intake.{described, AcceptedBytes}
 use Rattle.evidence.specs.declared.Layout.{Layout}
 use Rattle.evidence.specs.Evidence.{layout_of}
 use Rattle.laying.specs.Places.{Small, small_all}
-use Rattle.encoding.specs.Encoding.{encode_graph, GraphStored, graph_stored, graph_bytes, graph_fits, graph_again, encode_refutation, RefutationStored, refutation_stored, refutation_bytes, refutation_fits, refutation_again}
+use Rattle.encoding.specs.Encoding.{encode_graph, GraphStored, encode_refutation, RefutationStored}
+use Rattle.encoding.proofs.Encoding.{graph_stored, graph_bytes, graph_fits, graph_again, refutation_stored, refutation_bytes, refutation_fits, refutation_again}
 use Rattle.answers.specs.Answers.{INHABITED, EMPTY, answer}
 use Rattle.verdict.specs.Verdict.{verdict}
 use Rattle.demands.specs.Exact.{inhabited↔, empty↔}

@@ -23,7 +23,8 @@ use Rattle.evidence.specs.declared.Head.{Head}
 use Rattle.evidence.specs.declared.Head as Heads
 use Rattle.evidence.specs.declared.Head.TheVariants.{GraphOf, RefutationOf}
 use Rattle.graph_check.specs.GraphEvidence.{GraphKept, kept↔}
-use Rattle.lists.specs.ListEvidence.{ListKept, list_kept↔}
+use Rattle.lists.specs.ListEvidence.{ListKept}
+use Rattle.lists.proofs.ListEvidence.{list_kept↔}
 use Rattle.answers.specs.declared.Judgement.{Judgement}
 use Rattle.answers.specs.declared.Judgement.TheVariants.{Holds, Fails, HoldsOfNothing}
 use Rattle.answers.specs.Answers.{Word, REFUSED, INHABITED, EMPTY, WRITTEN, HOLDS, FAILS, HOLDS_OF_NOTHING, DONE, answer, told↔, of_judgement, judgement↔, case_when}

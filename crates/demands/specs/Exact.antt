@@ -10,7 +10,8 @@ use Rattle.intake.specs.Intake.{described, AcceptedBytes, accepted_bytes↔}
 use Rattle.evidence.specs.Evidence.{layout_of, graph_in}
 use Rattle.graph_check.specs.GraphEvidence.{GraphKept, kept↔}
 use Rattle.lists.specs.Lists.{refutation_in}
-use Rattle.lists.specs.ListEvidence.{ListKept, list_kept↔}
+use Rattle.lists.specs.ListEvidence.{ListKept}
+use Rattle.lists.proofs.ListEvidence.{list_kept↔}
 use Rattle.answers.specs.Answers.{Word, REFUSED, INHABITED, EMPTY, answer, told↔}
 use Rattle.verdict.specs.Verdict.{is_list, evidence_tests, evidence_refused, shown, verdict}
 

@@ -15,7 +15,8 @@ use Rattle.parts.specs.Numbers.{byte_at, num2}
 use Rattle.parts.specs.Pairs.{offset_at, length_at, end_at, part_at, Fills, pair_inside}
 use Rattle.laying.specs.Places.{Stands, stands_part, stands_append, stands_more, stands_whole, before, before_even, before_all}
 use Rattle.laying.specs.Places.{stands_flatten, at_map, Small, small_in}
-use Rattle.laying.specs.Numbers.{two, two_bytes}
+use Rattle.laying.specs.Numbers.{two}
+use Rattle.laying.proofs.Numbers.{two_bytes}
 use Rattle.description.specs.Descriptions.{Fields, fields_of, top}
 use Rattle.tables.specs.Tables.{fields_at}
 use Rattle.labels.specs.Labels.{most_entries}

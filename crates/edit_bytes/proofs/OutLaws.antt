@@ -13,7 +13,8 @@ use Rattle.logic.specs.Refusals.{unless↔, refuse↔}
 use Rattle.parts.specs.Numbers.{byte_at, num2}
 use Rattle.parts.specs.Pairs.{offset_at, begin_at, Fills, fills↔}
 use Rattle.laying.specs.Places.{Stands, stands_end, first, second, byte, part, stands_piece, before_even, before_all, at_map}
-use Rattle.laying.specs.Numbers.{two, two_bytes}
+use Rattle.laying.specs.Numbers.{two}
+use Rattle.laying.proofs.Numbers.{two_bytes}
 use Rattle.description.specs.Literals.{Literal, literal}
 use Rattle.description.specs.Descriptions.{Description, Entry, Fields, fields_of, top, entry_of_fields, same_fields}
 use Rattle.description.specs.Acceptance.{description_tests, literal_test}

@@ -11,7 +11,8 @@ use Rattle.logic.specs.Bounded.{all_elim}
 use Rattle.logic.specs.Lists.{member_at}
 use Rattle.logic.specs.SetLaws.{lt_has}
 use Rattle.laying.specs.Places.{each_map, Byte, Small, small_more, small_append, small_flatten}
-use Rattle.laying.specs.Numbers.{two, two_bytes}
+use Rattle.laying.specs.Numbers.{two}
+use Rattle.laying.proofs.Numbers.{two_bytes}
 use Rattle.description.specs.Literals.{Literal, code, literal, code_literal, code_entry, entry_of}
 use Rattle.description.specs.Descriptions.{Description, Entry, top, name, both, every, at_least, fields_of, same_fields↔}
 use Rattle.description.specs.Acceptance.{EntryOk, literal_test}

@@ -12,7 +12,8 @@ use Rattle.labels.specs.Labels.{most_entries}
 use Rattle.laying.specs.Laying.{laid}
 use Rattle.description.specs.Descriptions.{Description, Entry, top, name, both, every, at_least, Fields, fields_of, entry_of_fields, same_fields}
 use Rattle.description.specs.Acceptance.{EntryOk, entries_test, entry_test, simple_test, distinct_test, every_below_test}
-use Rattle.tables.specs.Tables.{fields_test, fields↔}
+use Rattle.tables.specs.Tables.{fields_test}
+use Rattle.tables.proofs.Tables.{fields↔}
 use Rattle.tables.specs.Concepts.{fields_in}
 use Rattle.tables.specs.declared.Fields as Code
 use Rattle.roles.specs.declared.Role.{Role}

@@ -3,4 +3,3 @@ pub mod Trees
 pub mod Steps
 pub mod Nodes
 pub mod Encoding
-pub mod Examples

@@ -4,11 +4,16 @@
 // Prints for each file how often each answer was right, and each row whose answer was another.
 #![tactic(auto)]
 
-mod rows;
+mod row_answers;
 mod tally;
 
-use libc::STDOUT_FILENO;
-use rows::{check_row, claim_row, read_row, write_row};
+ghost use Rattle.std.specs.Prelude.{◌≤◌, length, IfOk};
+
+use row_answers::{check_row, claim_row, read_row, write_row};
+use std::fs::File;
+use std::io;
+use std::io::{Read, Write};
+use std::rt::Files;
 use tally::{Answer, expected, print_answer, print_counts, same, slot};
 use vector_rows::{count, field, file_space, is_remark, mark_from};
 
@@ -40,82 +45,96 @@ fn expected_of(kind: Kind, line: &[u8]) -> Answer {
     }
 }
 
-fn print_other(got: Answer, line: &[u8]) {
-    io::write_all(STDOUT_FILENO, b"got ");
-    print_answer(got);
-    io::write_all(STDOUT_FILENO, b" in the row ");
-    io::write_all(STDOUT_FILENO, line);
-    io::write_all(STDOUT_FILENO, b"\n");
+fn print_other(rt: &impl Print, got: Answer, line: &[u8]) -> io::Result<()> {
+    print!(rt; "got ")?;
+    print_answer(rt, got)?;
+    print!(rt; " in the row ")?;
+    io::writer(rt).write_all(line)?;
+    print!(rt; "\n")
 }
 
-fn run_line(kind: Kind, line: &[u8], counts: &mut [u64]) {
+fn run_line(rt: &impl Print, kind: Kind, line: &[u8], counts: &mut [u64]) -> io::Result<()> {
     if is_remark(line) {
-        return;
+        return Ok(());
     }
     let got = answer_to(kind, line);
     if same(got, expected_of(kind, line)) {
         count(counts, slot(got));
+        Ok(())
     } else {
-        print_other(got, line);
+        print_other(rt, got, line)
     }
 }
 
-fn run(kind: Kind, all: &[u8], counts: &mut [u64]) {
+fn run(rt: &impl Print, kind: Kind, all: &[u8], counts: &mut [u64]) -> io::Result<()> {
     let mut at = 0;
     while at < all.len() {
         let end = mark_from(all, at, b'\n');
-        run_line(kind, &all[at..end], counts);
+        run_line(rt, kind, &all[at..end], counts)?;
         at = end + 1;
     }
+    Ok(())
 }
 
-fn run_file(name: &[u8], kind: Kind) {
-    let fd = os::open_read(name);
-    if fd < 0 {
-        os::fail(name);
-        return;
+// Reads until the buffer is full or the input ends, and returns how many bytes it put at the start of the buffer.
+fn read_full(from: &mut impl Read, buf: &mut [u8]) -> io::Result<usize>
+    ensures { IfOk result (λ n. n ≤ length buf.new) }
+{
+    let mut done = 0;
+    while done < buf.len() {
+        let n = from.read(&mut buf[done..])?;
+        if n == 0 {
+            break;
+        }
+        done += n;
     }
-    let mut space = file_space();
-    let n = io::read_full(fd, &mut space);
-    libc::close(fd);
-    let mut counts: [u64; 64] = [0; 64];
-    io::write_all(STDOUT_FILENO, name);
-    io::write_all(STDOUT_FILENO, b"\n");
-    run(kind, &space[..n], &mut counts);
-    print_counts(&counts);
+    Ok(done)
 }
 
-fn main() {
-    run_file(b"check", Kind::Check);
-    run_file(b"check_trials", Kind::Check);
-    run_file(b"check_worst", Kind::Check);
-    run_file(b"check_lists", Kind::Check);
-    run_file(b"check_lists_trials", Kind::Check);
-    run_file(b"check_lists_worst", Kind::Check);
-    run_file(b"check_wide", Kind::Check);
-    run_file(b"check_wide_worst", Kind::Check);
-    run_file(b"check_disjoint", Kind::Check);
-    run_file(b"check_disjoint_trials", Kind::Check);
-    run_file(b"check_disjoint_worst", Kind::Check);
-    run_file(b"claims", Kind::Claim);
-    run_file(b"claims_trials", Kind::Claim);
-    run_file(b"claims_worst", Kind::Claim);
-    run_file(b"claims_wide", Kind::Claim);
-    run_file(b"claims_disjoint", Kind::Claim);
-    run_file(b"claims_disjoint_trials", Kind::Claim);
-    run_file(b"write", Kind::Write);
-    run_file(b"write_trials", Kind::Write);
-    run_file(b"write_worst", Kind::Write);
-    run_file(b"write_wide", Kind::Write);
-    run_file(b"write_wide_worst", Kind::Write);
-    run_file(b"write_disjoint", Kind::Write);
-    run_file(b"write_disjoint_trials", Kind::Write);
-    run_file(b"read", Kind::Read);
-    run_file(b"read_trials", Kind::Read);
-    run_file(b"read_worst", Kind::Read);
-    run_file(b"read_wide", Kind::Read);
-    run_file(b"read_wide_worst", Kind::Read);
-    run_file(b"read_disjoint", Kind::Read);
-    run_file(b"read_disjoint_trials", Kind::Read);
-    run_file(b"read_disjoint_worst", Kind::Read);
+fn run_file(rt: &(impl Files + Print + Eprint), name: &str, kind: Kind) -> io::Result<()> {
+    let mut file = match File::open(rt, name) {
+        Ok(file) => file,
+        Err(e) => return eprintln!(rt; "{name}: {e}"),
+    };
+    let mut space = file_space();
+    let n = read_full(&mut file, &mut space)?;
+    let mut counts: [u64; 64] = [0; 64];
+    println!(rt; "{name}")?;
+    run(rt, kind, &space[..n], &mut counts)?;
+    print_counts(rt, &counts)
+}
+
+fn main(rt: HostRuntime) -> io::Result<()> {
+    run_file(&rt, "check", Kind::Check)?;
+    run_file(&rt, "check_trials", Kind::Check)?;
+    run_file(&rt, "check_worst", Kind::Check)?;
+    run_file(&rt, "check_lists", Kind::Check)?;
+    run_file(&rt, "check_lists_trials", Kind::Check)?;
+    run_file(&rt, "check_lists_worst", Kind::Check)?;
+    run_file(&rt, "check_wide", Kind::Check)?;
+    run_file(&rt, "check_wide_worst", Kind::Check)?;
+    run_file(&rt, "check_disjoint", Kind::Check)?;
+    run_file(&rt, "check_disjoint_trials", Kind::Check)?;
+    run_file(&rt, "check_disjoint_worst", Kind::Check)?;
+    run_file(&rt, "claims", Kind::Claim)?;
+    run_file(&rt, "claims_trials", Kind::Claim)?;
+    run_file(&rt, "claims_worst", Kind::Claim)?;
+    run_file(&rt, "claims_wide", Kind::Claim)?;
+    run_file(&rt, "claims_disjoint", Kind::Claim)?;
+    run_file(&rt, "claims_disjoint_trials", Kind::Claim)?;
+    run_file(&rt, "write", Kind::Write)?;
+    run_file(&rt, "write_trials", Kind::Write)?;
+    run_file(&rt, "write_worst", Kind::Write)?;
+    run_file(&rt, "write_wide", Kind::Write)?;
+    run_file(&rt, "write_wide_worst", Kind::Write)?;
+    run_file(&rt, "write_disjoint", Kind::Write)?;
+    run_file(&rt, "write_disjoint_trials", Kind::Write)?;
+    run_file(&rt, "read", Kind::Read)?;
+    run_file(&rt, "read_trials", Kind::Read)?;
+    run_file(&rt, "read_worst", Kind::Read)?;
+    run_file(&rt, "read_wide", Kind::Read)?;
+    run_file(&rt, "read_wide_worst", Kind::Read)?;
+    run_file(&rt, "read_disjoint", Kind::Read)?;
+    run_file(&rt, "read_disjoint_trials", Kind::Read)?;
+    run_file(&rt, "read_disjoint_worst", Kind::Read)
 }

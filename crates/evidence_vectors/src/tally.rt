@@ -1,7 +1,7 @@
 // Answers, how they are printed, and how often each was right.
 use answers::{Judgement, Reading, Verdict, Written};
-use libc::STDOUT_FILENO;
 use parts::byte;
+use std::io;
 use vector_rows::{field, number};
 
 // An answer: the first letter of its word, or 'V' for HOLDS OF NOTHING, then a refusal's number and record, or a line's length.
@@ -94,44 +94,23 @@ pub(crate) fn same(a: Answer, b: Answer) -> bool {
     (a.word == b.word) & ((a.number == b.number) & (a.place == b.place))
 }
 
-fn print_word(word: u8) {
+fn print_word(rt: &impl Print, word: u8) -> io::Result<()> {
     match word {
-        b'I' => {
-            io::write_all(STDOUT_FILENO, b"INHABITED");
-        }
-        b'E' => {
-            io::write_all(STDOUT_FILENO, b"EMPTY");
-        }
-        b'L' => {
-            io::write_all(STDOUT_FILENO, b"LINE");
-        }
-        b'H' => {
-            io::write_all(STDOUT_FILENO, b"HOLDS");
-        }
-        b'F' => {
-            io::write_all(STDOUT_FILENO, b"FAILS");
-        }
-        b'V' => {
-            io::write_all(STDOUT_FILENO, b"HOLDS OF NOTHING");
-        }
-        b'R' => {
-            io::write_all(STDOUT_FILENO, b"REFUSED");
-        }
-        b'O' => {
-            io::write_all(STDOUT_FILENO, b"OTHER BYTES");
-        }
-        _ => {
-            io::write_all(STDOUT_FILENO, b"A LINE THAT DOES NOT HOLD");
-        }
+        b'I' => print!(rt; "INHABITED"),
+        b'E' => print!(rt; "EMPTY"),
+        b'L' => print!(rt; "LINE"),
+        b'H' => print!(rt; "HOLDS"),
+        b'F' => print!(rt; "FAILS"),
+        b'V' => print!(rt; "HOLDS OF NOTHING"),
+        b'R' => print!(rt; "REFUSED"),
+        b'O' => print!(rt; "OTHER BYTES"),
+        _ => print!(rt; "A LINE THAT DOES NOT HOLD"),
     }
 }
 
-pub(crate) fn print_answer(a: Answer) {
-    print_word(a.word);
-    io::write_all(STDOUT_FILENO, b" ");
-    io::print_decimal(STDOUT_FILENO, a.number as u64);
-    io::write_all(STDOUT_FILENO, b" ");
-    io::print_decimal(STDOUT_FILENO, a.place as u64);
+pub(crate) fn print_answer(rt: &impl Print, a: Answer) -> io::Result<()> {
+    print_word(rt, a.word)?;
+    print!(rt; " {} {}", a.number, a.place)
 }
 
 // Where an answer is counted: by its letter, or by its number if it is a refusal.
@@ -143,27 +122,25 @@ pub(crate) fn slot(a: Answer) -> usize {
     }
 }
 
-fn print_count(k: usize, n: u64) {
+fn print_count(rt: &impl Print, k: usize, n: u64) -> io::Result<()> {
     if n == 0 {
-        return;
+        return Ok(());
     }
     if k < 32 {
-        print_word(64 + ((k % 32) as u8));
+        print_word(rt, 64 + ((k % 32) as u8))?;
     } else {
-        print_word(b'R');
-        io::write_all(STDOUT_FILENO, b" ");
-        io::print_decimal(STDOUT_FILENO, (k as u64) - 32);
+        print_word(rt, b'R')?;
+        print!(rt; " {}", (k as u64) - 32)?;
     }
-    io::write_all(STDOUT_FILENO, b": ");
-    io::print_decimal(STDOUT_FILENO, n);
-    io::write_all(STDOUT_FILENO, b"\n");
+    println!(rt; ": {n}")
 }
 
 // How often each answer came, those of no row left out.
-pub(crate) fn print_counts(counts: &[u64]) {
+pub(crate) fn print_counts(rt: &impl Print, counts: &[u64]) -> io::Result<()> {
     let mut k = 0;
     while k < counts.len() {
-        print_count(k, counts[k]);
+        print_count(rt, k, counts[k])?;
         k += 1;
     }
+    Ok(())
 }

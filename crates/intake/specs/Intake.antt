@@ -114,10 +114,6 @@ accepted_bytes↔ d = simp (unless↔, reading, fills↔) (
   ),
 )
 
--- the answer that the code promises is fine exactly then
-pub fine_when : (d : List ℕ) (t : Tested) → refusal_of t ≡ wholly (bytes_test d) → (t ≡ Fine) ↔ AcceptedBytes d
-fine_when d t e = let f = fine↔ t (bytes_test d) e in let a = accepted_bytes↔ d in (λ h. a.0 (f.0 h), λ h. f.1 (a.1 h))
-
 -- the sizes as numbers of roles, entries, rules and records of the fourth part
 pub accepted_sizes : (d : List ℕ) → AcceptedBytes d → (1 ≤ (described d).roles) × ((described d).roles ≤ most_roles)
     × (1 ≤ (described d).entries) × ((described d).entries ≤ most_entries) × ((described d).rules ≤ most_rules) × ((described d).disjoints ≤ most_disjoints)

@@ -16,7 +16,8 @@ use Rattle.description.specs.Roles.{simple}
 use Rattle.description.specs.Acceptance.{entry_test, simple_test, distinct_test, every_below_test, literal_test, entries_test, simples_test, distincts_test, everys_test, query_test, disjoint_test, disjoints_test, description_tests, EntryOk}
 use Rattle.description.proofs.Acceptance.{entry↔}
 use Rattle.labels.specs.Labels.{most_entries}
-use Rattle.tables.specs.Tables.{entry_count, fields_at, records_in, describe, fields_test, fields↔}
+use Rattle.tables.specs.Tables.{entry_count, fields_at, records_in, describe, fields_test}
+use Rattle.tables.proofs.Tables.{fields↔}
 use Rattle.roles.specs.Ancestors.{role_count}
 use Rattle.roles.specs.Disjoint.{disjoint_count}
 use Rattle.roles.specs.Records.{role_at, role_table, table_simple}

@@ -1,18 +1,15 @@
 -- Tests 9, 10 and 16 to 20 on the bytes of a list, and what it is to pass them (01, "Evidence" and "Table of refusals"; FORMAT 5, 8).
-use Rattle.std.specs.Prelude.{ℕ, ◌<◌, ◌≡◌, refl, ◌↔◌, Bool, ◌&&◌, List, eqb}
+use Rattle.std.specs.Prelude.{ℕ, ◌<◌, ◌≡◌, Bool, ◌&&◌, List, eqb}
 use Rattle.std.proofs.Math.Option.{Option, none}
-use Rattle.logic.specs.Tests.{reading}
-use Rattle.logic.specs.Refusals.{Refusal, unless, unless↔, refuse, refuse↔, refuse_from, records↔}
+use Rattle.logic.specs.Refusals.{Refusal, unless, refuse, refuse_from}
 use Rattle.parts.specs.Numbers.{byte_at}
 use Rattle.description.specs.Literals.{Literal}
 use Rattle.description.specs.Descriptions.{Description}
-use Rattle.description.specs.Acceptance.{Accepted}
-use Rattle.evidence.specs.Evidence.{record_count, HeadOk, head_test, head↔, layout_of, record_at}
+use Rattle.evidence.specs.Evidence.{record_count, HeadOk, head_test, layout_of, record_at}
 use Rattle.evidence.specs.declared.Layout.{Layout}
 use Rattle.refutation.specs.Records.{Closes, RefutationFits}
 use Rattle.refutation.specs.RecordTests.{stored_refutation, refutation_refusal}
-use Rattle.refutation.proofs.RecordTests.{refutation↔}
-use Rattle.lists.specs.Lists.{refutation_in, refutation_size, RecordForm, record_form_test, record_form↔}
+use Rattle.lists.specs.Lists.{refutation_in, RecordForm, record_form_test}
 
 -- 9: the head of a list
 abbrev pub list_head : List ℕ → Bool
@@ -34,12 +31,3 @@ pub record ListKept (D : Description) (W : List Literal) (s : List ℕ) : Type 0
   pub formed : (x : ℕ) → x < record_count s → RecordForm (layout_of D) (record_at s x)
   pub fits : RefutationFits stored_refutation (refutation_in (layout_of D) s)
   pub closes : Closes D W (refutation_in (layout_of D) s)
-
--- none of 9, 10 and 16 to 20 refuses exactly then
-pub list_kept↔ : (D : Description) → Accepted D → (W : List Literal) (s : List ℕ) → (list_tests D W s ≡ none) ↔ ListKept D W s
-unfolding list_tests
-list_kept↔ D A W s = let rules = refutation↔ stored_refutation D A W (refutation_in (layout_of D) s) in simp (refuse↔, unless↔, records↔, reading, head↔, record_form↔) (
-  λ t. let g = rules.0 (rw (refutation_size (layout_of D) s) t.0.0.0.1.0, t.1.1) in
-      record { head = t.0.0.0; is_a_list = t.0.0.1; formed = λ x h. (t.1.0 x h).0; fits = g.1; closes = g.0 },
-  λ k. (((k.head, k.is_a_list), refl), (λ x h. (k.formed x h, refl), (rules.1 (k.closes, k.fits)).1)),
-)

@@ -13,7 +13,7 @@ use Rattle.rows.specs.HeldRows.{rows_held}
 use Rattle.cell_walk.proofs.WalkLaws.{count_start, few_changes, all_next, tally_as, walk_start}
 use Rattle.list_cells.specs.CellSteps.{cell_fine}
 use Rattle.list_cells.specs.CellAnswers.{gathered_on, no_cell, cell_at_lem}
-use Rattle.list_cells.specs.CellGathered.{cell_told}
+use Rattle.list_cells.proofs.CellGathered.{cell_told}
 use Rattle.list_cells.proofs.walk_cells.Goals as goal
 use Rattle.list_cells.proofs.walk_cells.Goals.{After-shown_of-shown, After-cell_ok}
 

@@ -1,0 +1,2 @@
+pub mod CellGathered
+pub mod CellJoin
