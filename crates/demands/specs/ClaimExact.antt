@@ -30,7 +30,7 @@ use Rattle.answers.specs.declared.Judgement.TheVariants.{Holds, Fails, HoldsOfNo
 use Rattle.answers.specs.Answers.{Word, REFUSED, INHABITED, EMPTY, WRITTEN, HOLDS, FAILS, HOLDS_OF_NOTHING, DONE, answer, told↔, of_judgement, judgement↔, case_when}
 use Rattle.claims.specs.declared.Pieces.{Pieces}
 use Rattle.claims.specs.declared.Pieces.TheVariants.{ListAndGraph, GraphAlone, ListAlone, Misfit, Off}
-use Rattle.claims.specs.ClaimSteps.{second_some}
+use Rattle.claims.proofs.ClaimSteps.{second_some}
 use Rattle.claims.specs.Claims.{subject, counterexample, second_of, pieces, pieces_of, kinds_refusal, pieces_tests, shows, claim_refused, claim_answer}
 
 -- C and D are literals of the table
