@@ -1,36 +1,17 @@
--- A claim's tests as the code makes them; for an accepted description they are those of Claims.
-use Rattle.std.specs.Prelude.{ℕ, ◌/◌, ◌<◌, ◌≤◌, ◌≡◌, refl, Bool, true, false, cond, ◌&&◌, List, ltb, length}
-use Rattle.std.proofs.Math.Path.{sym, ap}
-use Rattle.std.proofs.Common.{◌∙◌, ap₂, arith, ne_eqb}
-use Rattle.std.proofs.Math.Option.{Option, none, some}
-use Rattle.logic.specs.Tests.{and_l, and_r, so_ltb}
-use Rattle.logic.specs.Refusals.{Refusal, unless, unless↔, refuse, refuse_then, first_of, refuse_some, refuse_none}
-use Rattle.description.specs.Literals.{Literal, pos, neg, literal, opposite, code, entry_of, adding, literal_set, code_literal, literal_code, entry_of_opposite}
-use Rattle.description.specs.Acceptance.{literal_test}
-use Rattle.description.specs.Descriptions.{Description}
-use Rattle.tables.specs.Tables.{records_in, is_there, describe}
-use Rattle.labels.specs.Labels.{most_entries, label_with}
-use Rattle.roles.specs.Ancestors.{role_count}
-use Rattle.roles.specs.Records.{MasksOf}
-use Rattle.directory.specs.Directory.{four, four_there, disjoint_part, roles_part, concepts_part, query_part}
-use Rattle.intake.specs.Intake.{parts_test, parts_accepted, bytes_test}
-use Rattle.intake.specs.Opening.{wholly_none, parts_fine}
-use Rattle.nodes.specs.NodeSteps.{opposed, put_is}
-use Rattle.evidence.specs.Evidence.{head_of}
+-- A claim's tests as the code makes them.
+use Rattle.std.specs.Prelude.{ℕ, ◌/◌, Bool, cond, ◌&&◌, List, ltb, length}
+use Rattle.std.proofs.Math.Option.{Option, none}
+use Rattle.logic.specs.Refusals.{Refusal, unless, refuse, first_of}
+use Rattle.labels.specs.Labels.{label_with}
+use Rattle.nodes.specs.NodeSteps.{opposed}
 use Rattle.evidence.specs.declared.Head.{Head}
-use Rattle.evidence.specs.declared.Head as Heads
 use Rattle.evidence.specs.declared.Head.TheVariants.{GraphOf, RefutationOf}
-use Rattle.graph_check.specs.GraphEvidence.{graph_tests}
 use Rattle.graph_check.specs.GraphSteps.{graph_code}
-use Rattle.graph_check.specs.GraphJoin.{graph_is}
-use Rattle.lists.specs.ListEvidence.{list_tests}
 use Rattle.list_check.specs.CheckSteps.{list_code}
-use Rattle.list_check.specs.CheckJoin.{list_is}
-use Rattle.answers.specs.declared.Judgement.TheVariants.{Refused}
-use Rattle.answers.specs.Answers.{Answer, answer, wholly, of_judgement, HOLDS, FAILS, HOLDS_OF_NOTHING}
+use Rattle.answers.specs.Answers.{Answer, answer, wholly}
 use Rattle.claims.specs.declared.Pieces.{Pieces}
 use Rattle.claims.specs.declared.Pieces.TheVariants.{ListAndGraph, GraphAlone, ListAlone, Misfit, Off}
-use Rattle.claims.specs.Claims.{subject, counterexample, claim_test, second_of, pieces, pieces_of, kinds_refusal, shows, pieces_tests, claim_answer}
+use Rattle.claims.specs.Claims.{second_of, pieces, pieces_of, kinds_refusal, shows}
 
 -- C and not D as a set
 abbrev pub counter_set : ℕ → ℕ → ℕ
@@ -45,7 +26,7 @@ abbrev pub literals_code : List ℕ → ℕ → ℕ → Option ℕ
 literals_code cs c d = unless (in_table cs c && in_table cs d) 24 none
 
 -- the head of a list, or else of a graph, of n records
-abbrev head_for : Bool → ℕ → Head
+abbrev pub head_for : Bool → ℕ → Head
 head_for list n = cond list (RefutationOf n) (GraphOf n)
 
 -- the kinds where the first piece is a list, or else a graph, of any number of records
@@ -68,163 +49,3 @@ ends_in p o = answer (shows p) (first_of o (wholly (kinds_refusal p)))
 unfoldable pub opened_claim : Bool → List ℕ → ℕ → List ℕ → List ℕ → ℕ → ℕ → List ℕ → List ℕ → Answer
 opened_claim b a m cs qs c d s t = let p = pieces_of s t in
     answer (shows p) (refuse 0 (literals_code cs c d) (refuse 0 (kinds_refusal p) (pieces_code b a m cs qs c d s t p)))
-
--- ---- laws for the code: the kinds
--- the number of records does not matter
-pub first_is : (s t : List ℕ) (list : Bool) (n : ℕ) → head_for list n ≡ head_of s → kinds_after list t ≡ pieces_of s t
-unfolding pieces
-first_is s t list n e = go list (second_of t) ∙ ap (λ h. pieces h (second_of t)) e
-  where
-    go : (list : Bool) (o : Option Head) → pieces (head_for list 0) o ≡ pieces (head_for list n) o
-    go true none = refl
-    go true (some Heads.TheVariants.Off) = refl
-    go true (some (GraphOf m)) = refl
-    go true (some (RefutationOf m)) = refl
-    go false none = refl
-    go false (some Heads.TheVariants.Off) = refl
-    go false (some (GraphOf m)) = refl
-    go false (some (RefutationOf m)) = refl
-
-pub off_first : (s t : List ℕ) → Heads.TheVariants.Off ≡ head_of s → Off ≡ pieces_of s t
-unfolding pieces
-off_first s t e = ap (λ h. pieces h (second_of t)) e
-
--- no second piece, or one with the head k
-pub second_none : (h : Head) (t : List ℕ) → length t ≡ 0 → pieces h none ≡ pieces h (second_of t)
-second_none h t e = rw e refl
-
-pub second_some : (h k : Head) (t : List ℕ) → (length t ≡ 0 → ⊥) → k ≡ head_of t → pieces h (some k) ≡ pieces h (second_of t)
-second_some h k t n e = rw (ne_eqb (length t) 0 n, e) refl
-
--- after a list, and after a graph
-module _ (list b : Bool) (q : list ≡ b) (t : List ℕ) where
-  pub after_none : length t ≡ 0 → pieces (head_for b 0) none ≡ kinds_after list t
-  after_none e = second_none (head_for b 0) t e ∙ sym (ap (λ l. kinds_after l t) q)
-
-  pub after_some : (k : Head) → (length t ≡ 0 → ⊥) → k ≡ head_of t → pieces (head_for b 0) (some k) ≡ kinds_after list t
-  after_some k n e = second_some (head_for b 0) k t n e ∙ sym (ap (λ l. kinds_after l t) q)
-
-pub after_off : (list : Bool) → Off ≡ pieces (head_for list 0) (some Heads.TheVariants.Off)
-unfolding pieces
-after_off true = refl
-after_off false = refl
-
-pub after_list : (list : Bool) (n : ℕ) → Misfit ≡ pieces (head_for list 0) (some (RefutationOf n))
-unfolding pieces
-after_list true n = refl
-after_list false n = refl
-
--- ---- the code's tests are the claim's
-half : (l : ℕ) → l / 2 ≡ entry_of (literal l)
-half l = go (literal l) (code_literal l)
-  where
-    go : (x : Literal) → code x ≡ l → l / 2 ≡ entry_of x
-    go (pos n) e = omega arith
-    go (neg n) e = omega arith
-
--- of two tests and the rest, the first two taken together
-first_two : (o x : Option ℕ) (later : Option Refusal) → first_of (refuse 0 o (wholly x)) later ≡ refuse 0 o (refuse 0 x later)
-first_two none none later = refl
-first_two none (some m) later = refl
-first_two (some n) x later = refl
-
--- nothing after
-first_none : (o : Option Refusal) → first_of o none ≡ o
-first_none none = refl
-first_none (some z) = refl
-
--- kinds that fit no answer are refused, whatever is asked of the pieces
-ends_by_kind : (f : Pieces → Option Refusal) → f Misfit ≡ none → f Off ≡ none → (p : Pieces)
-    → ends_in p (f p) ≡ answer (shows p) (refuse 0 (kinds_refusal p) (f p))
-ends_by_kind f m o ListAndGraph = ap (answer HOLDS) (first_none (f ListAndGraph))
-ends_by_kind f m o GraphAlone = ap (answer FAILS) (first_none (f GraphAlone))
-ends_by_kind f m o ListAlone = ap (answer HOLDS_OF_NOTHING) (first_none (f ListAlone))
-ends_by_kind f m o Misfit = rw m refl
-ends_by_kind f m o Off = rw o refl
-
-module _ (b : Bool) (a : List ℕ) (m : ℕ) (cs qs : List ℕ) (c d : ℕ) (s t : List ℕ) (p : Pieces) (q : p ≡ pieces_of s t) where
-  abbrev coded : Pieces → Option Refusal
-  coded p = refuse 0 (kinds_refusal p) (pieces_code b a m cs qs c d s t p)
-
-  joined : answer (shows p) (refuse 0 (literals_code cs c d) (coded p)) ≡ opened_claim b a m cs qs c d s t
-  unfolding opened_claim
-  joined = ap (λ p. answer (shows p) (refuse 0 (literals_code cs c d) (coded p))) q
-
-  -- 24 of the literals refuses
-  pub literals_stop : (z : Refusal) → wholly (literals_code cs c d) ≡ some z → ends_in p (some z) ≡ opened_claim b a m cs qs c d s t
-  literals_stop z e = sym (ap (answer (shows p)) (refuse_some 0 (literals_code cs c d) (coded p) z e)) ∙ joined
-
-  -- it does not, and the pieces come to o
-  pub pieces_end : wholly (literals_code cs c d) ≡ none → (o : Option Refusal) → o ≡ pieces_code b a m cs qs c d s t p
-      → ends_in p o ≡ opened_claim b a m cs qs c d s t
-  pieces_end e o h = ap (ends_in p) h ∙ ends_by_kind (pieces_code b a m cs qs c d s t) refl refl p
-      ∙ sym (ap (answer (shows p)) (refuse_none 0 (literals_code cs c d) (coded p) e)) ∙ joined
-
--- ---- for an accepted description these are the tests of a claim
-module _ (rs cs qs : List ℕ) (o : Option (List ℕ)) (a : List ℕ) (c d : ℕ) (s t : List ℕ) (masks : MasksOf rs (records_in o) a)
-    (fine : parts_test rs cs qs o ≡ none) where
-  abbrev D : Description
-  D = describe rs cs qs o
-
-  literals_are : (in_table cs c && in_table cs d) ≡ (literal_test D (literal c) && literal_test D (literal d))
-  literals_are = rw (half c, half d) refl
-
-  module _ (c-in : entry_of (literal c) < length cs / 6) (d-in : entry_of (literal d) < length cs / 6) where
-    few : length cs / 6 ≤ most_entries
-    few = (parts_accepted rs cs qs o fine).1
-
-    -- C put into a set, and the two sets that are wanted
-    put_c : (N : ℕ) → label_with N c ≡ adding N (literal c)
-    put_c N = put_is (length cs / 6) N c few c-in
-
-    subject_set : label_with 0 c ≡ literal_set (subject c)
-    unfolding literal_set
-    subject_set = put_c 0
-
-    counter_set_lem : counter_set c d ≡ literal_set (counterexample c d)
-    unfolding literal_set
-    counter_set_lem = let e = literal_code (opposite (literal d)) in
-        ap (λ N. label_with N c)
-        (put_is (length cs / 6) 0 (opposed d) few (rw (e, entry_of_opposite (literal d)) d-in) ∙ ap (adding 0) e) ∙ put_c _
-
-    list : (W : List Literal) (N : ℕ) (x : List ℕ) → N ≡ literal_set W → list_code (is_there o) a cs qs N x ≡ list_tests D W x
-    list W N x e = let k = parts_accepted rs cs qs o fine in ap (λ M. list_code (is_there o) a cs qs M x) e ∙ list_is rs cs qs o a W x masks k.0 k.1 k.2 k.3
-
-    graph : (W : List Literal) (N : ℕ) (x : List ℕ) → N ≡ literal_set W → graph_code a (role_count rs) cs qs N x ≡ graph_tests D W x
-    graph W N x e = ap (λ M. graph_code a (role_count rs) cs qs M x) e ∙ graph_is rs cs qs o a W x masks fine
-
-    pieces_are : (p : Pieces) → pieces_code (is_there o) a (role_count rs) cs qs c d s t p ≡ pieces_tests D c d s t p
-    pieces_are ListAndGraph = ap₂ first_of (list (counterexample c d) _ s counter_set_lem) (graph (subject c) _ t subject_set)
-    pieces_are GraphAlone = graph (counterexample c d) _ s counter_set_lem
-    pieces_are ListAlone = list (subject c) _ s subject_set
-    pieces_are Misfit = refl
-    pieces_are Off = refl
-
-  rest_is : (p : Pieces) → refuse 0 (literals_code cs c d) (refuse 0 (kinds_refusal p) (pieces_code (is_there o) a (role_count rs) cs qs c d s t p))
-      ≡ refuse 0 (claim_test D c d) (refuse 0 (kinds_refusal p) (pieces_tests D c d s t p))
-  rest_is p = ap (λ b. refuse 0 (unless b 24 none) (refuse 0 (kinds_refusal p) (pieces_code (is_there o) a (role_count rs) cs qs c d s t p))) literals_are
-      ∙ refuse_then 0 (claim_test D c d) _ _ (λ e. let h = ((unless↔ _ 24 none).0 e).0 in
-      let c-in = so_ltb _ _ (and_l _ _ h) in let d-in = so_ltb _ _ (and_r (literal_test D (literal c)) _ h) in
-      ap (refuse 0 (kinds_refusal p)) (pieces_are c-in d-in p))
-
--- a list and then a graph: the list is refused, or it is not
-module _ (b : Bool) (a : List ℕ) (m : ℕ) (cs qs : List ℕ) (c d : ℕ) (s t : List ℕ) (p : Pieces) (q : p ≡ ListAndGraph) where
-  pub list_stops : (z : Refusal) → list_code b a cs qs (counter_set c d) s ≡ some z → some z ≡ pieces_code b a m cs qs c d s t p
-  list_stops z e = rw (q, e) refl
-
-  pub list_on : list_code b a cs qs (counter_set c d) s ≡ none → graph_code a m cs qs (label_with 0 c) t ≡ pieces_code b a m cs qs c d s t p
-  list_on e = rw (q, e) refl
-
--- ---- the description comes first
-module _ (x : List ℕ) (c d : ℕ) (s t : List ℕ) where
-  pub claim_refused_lem : (n i : ℕ) → some (record { number = n; place = i }) ≡ wholly (bytes_test x) → of_judgement (Refused n i) ≡ claim_answer x c d s t
-  unfolding claim_answer
-  claim_refused_lem n i e = sym (ap (answer (shows (pieces_of s t))) (refuse_some 0 (bytes_test x) _ _ (sym e)))
-
-  pub claim_opened : (b : Bool) (a : List ℕ) (m : ℕ) (cs qs : List ℕ) → none ≡ wholly (bytes_test x)
-      → MasksOf (roles_part x) (records_in (disjoint_part x)) a → m ≡ role_count (roles_part x) → cs ≡ concepts_part x → qs ≡ query_part x → b ≡ four x
-      → opened_claim b a m cs qs c d s t ≡ claim_answer x c d s t
-  unfolding claim_answer opened_claim
-  claim_opened b a m cs qs e masks k p q f = rw (k, p, q, f ∙ sym (four_there x)) (ap (answer (shows (pieces_of s t)))
-      (rest_is (roles_part x) (concepts_part x) (query_part x) (disjoint_part x) a c d s t masks (parts_fine x (sym (wholly_none (bytes_test x) e))) (pieces_of s t)
-      ∙ sym (refuse_none 0 (bytes_test x) _ (sym e))))

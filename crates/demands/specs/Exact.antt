@@ -1,28 +1,18 @@
--- Demand 2 on bytes: when INHABITED and EMPTY are told, that they are then true, and that after INHABITED the line is written.
-use Rattle.std.specs.Prelude.{ℕ, ◌*◌, ◌≤◌, ◌≡◌, refl, ◌↔◌, Bool, true, false, cond, List, length}
+-- Demand 2 on bytes: when INHABITED and EMPTY are told. (That they are then true stands in proofs/True, that after INHABITED the line is written in proofs/Exact.)
+use Rattle.std.specs.Prelude.{ℕ, ◌≡◌, refl, ◌↔◌, Bool, true, false, cond, List}
 use Rattle.std.proofs.Math.Option.{none}
 use Rattle.std.proofs.Common.{arith}
 use Rattle.logic.specs.Refusals.{refuse↔}
 use Rattle.description.specs.Descriptions.{Description, wanted}
-use Rattle.interpretation.specs.Meaning.{Interpretation}
-use Rattle.interpretation.specs.Models.{Model, Satisfies}
 use Rattle.graph.specs.Graphs.{Graph}
-use Rattle.graph.specs.Line.{copies, line}
-use Rattle.graph.proofs.Sound.{graph_sound}
 use Rattle.refutation.specs.Records.{Refutation}
-use Rattle.refutation.proofs.Sound.{refutation_sound}
 use Rattle.intake.specs.Intake.{described, AcceptedBytes, accepted_bytes↔}
 use Rattle.evidence.specs.Evidence.{layout_of, graph_in}
 use Rattle.graph_check.specs.GraphEvidence.{GraphKept, kept↔}
-use Rattle.lines.specs.Lines.{name_size, line_length, most_elements}
-use Rattle.line_writer.specs.Writing.{write_answer, written↔}
 use Rattle.lists.specs.Lists.{refutation_in}
 use Rattle.lists.specs.ListEvidence.{ListKept}
 use Rattle.lists.proofs.ListEvidence.{list_kept↔}
-use Rattle.answers.specs.declared.Verdict.{Verdict}
-use Rattle.answers.specs.declared.Verdict.TheVariants.{Inhabited, Empty}
-use Rattle.answers.specs.Answers as Case
-use Rattle.answers.specs.Answers.{Word, REFUSED, INHABITED, EMPTY, WRITTEN, answer, told↔, of_verdict, case_when}
+use Rattle.answers.specs.Answers.{Word, REFUSED, INHABITED, EMPTY, answer, told↔}
 use Rattle.verdict.specs.Verdict.{is_list, evidence_tests, evidence_refused, shown, verdict}
 
 -- a word but REFUSED is told exactly if it is what such evidence shows and none of 1 to 20 and 26 refuses
@@ -68,37 +58,3 @@ empty↔ d s = let w = shown↔ d s EMPTY (λ e. let z : ◌≡◌ {A = ℕ} 0 1
   where
     D : Description
     D = described d
-
--- so for the case that the code answers
-module _ (d s : List ℕ) (v : Verdict) (e : of_verdict v ≡ verdict d s) where
-  pub inhabited_when : (v ≡ Inhabited) ↔ (AcceptedBytes d × GraphKept (described d) (wanted (described d)) s)
-  inhabited_when = case_when (of_verdict v) (verdict d s) (answer INHABITED none) e (Case.inhabited↔ v) (inhabited↔ d s)
-
-  pub empty_when : (v ≡ Empty) ↔ (AcceptedBytes d × ListKept (described d) (wanted (described d)) s)
-  empty_when = case_when (of_verdict v) (verdict d s) (answer EMPTY none) e (Case.empty↔ v) (empty↔ d s)
-
--- ---- and written: for evidence that is INHABITED, and no other, a line of n·K elements is written if they are at most 64 and a buffer of b bytes has room for it
-module _ (d s : List ℕ) (b : ℕ) where
-  abbrev size : ℕ
-  size = length (graph_of d s) * copies (graph_of d s)
-
-  pub inhabited_written : verdict d s ≡ answer INHABITED none → size ≤ most_elements → line_length (name_size (described d)) size ≤ b → write_answer d s b ≡ answer WRITTEN none
-  inhabited_written e few room = (written↔ d s b).1 ((inhabited↔ d s).0 e, (few, room))
-
-  pub written_inhabited : write_answer d s b ≡ answer WRITTEN none → verdict d s ≡ answer INHABITED none
-  written_inhabited e = (inhabited↔ d s).1 ((written↔ d s b).0 e).0
-
--- ---- and true
--- after INHABITED the line of the graph is a model of the description, and has the root
-pub inhabited_true : (d s : List ℕ) → verdict d s ≡ answer INHABITED none
-    → let D = described d in Model D (line D (graph_of d s)) × Satisfies D (wanted D) (line D (graph_of d s))
-inhabited_true d s e = let k = (inhabited↔ d s).0 e in graph_sound (described d) k.0.accepted (wanted (described d)) (graph_of d s) k.1.keeps
-
--- after EMPTY no finite model of any size has it
-pub empty_true : (d s : List ℕ) → verdict d s ≡ answer EMPTY none
-    → (I : Interpretation) → Model (described d) I → Satisfies (described d) (wanted (described d)) I → ⊥
-empty_true d s e = let k = (empty↔ d s).0 e in refutation_sound (described d) k.0.accepted (wanted (described d)) (refutation_of d s) k.1.closes
-
--- so no description has evidence of both kinds
-pub never_both : (d s t : List ℕ) → verdict d s ≡ answer INHABITED none → verdict d t ≡ answer EMPTY none → ⊥
-never_both d s t p q = let m = inhabited_true d s p in empty_true d t q (line (described d) (graph_of d s)) m.0 m.1

@@ -129,10 +129,10 @@ module _ (D : Description) (few : D.entries ≤ 32) where
 abbrev ten : Refusal
 ten = record { number = 10; place = 0 }
 
-module _ (D : Description) (W : List Literal) (s : List ℕ) (head : HeadOk s) (is-graph : byte_at s 0 ≡ 1) where
+module _ (D : Description) (W : List Literal) (s : List ℕ) (head : HeadOk s) (is_graph : byte_at s 0 ≡ 1) where
   form_refused : node_form_test (layout_of D) (length (record_at s 0)) ≡ false → graph_tests D W s ≡ some ten
   unfolding graph_tests
-  form_refused e = rw (is-graph, (head↔ s).1 head) (sym (records_start _ _ (record_count s)) ∙ records_stop _ _ (record_count s) 0 ten head.1.0 (rw e refl))
+  form_refused e = rw (is_graph, (head↔ s).1 head) (sym (records_start _ _ (record_count s)) ∙ records_stop _ _ (record_count s) 0 ten head.1.0 (rw e refl))
 
   -- of 8 bytes under a table of more than 32 entries
   pub narrow_graph : 32 < D.entries → (m : ℕ) → length (record_at s 0) ≡ 8 + 5 * m → graph_tests D W s ≡ some ten
@@ -143,13 +143,13 @@ module _ (D : Description) (W : List Literal) (s : List ℕ) (head : HeadOk s) (
   wide_graph few m e = form_refused (ap (node_form_test (layout_of D)) e ∙ ap (λ f. node_form_test f (16 + 5 * m)) (narrow_when D few) ∙ (other_width D.fourth m).1)
 
 -- so is the verdict on it, for an accepted description
-module _ (d s : List ℕ) (accepted : AcceptedBytes d) (head : HeadOk s) (is-graph : byte_at s 0 ≡ 1) where
+module _ (d s : List ℕ) (accepted : AcceptedBytes d) (head : HeadOk s) (is_graph : byte_at s 0 ≡ 1) where
   told : graph_tests (described d) (wanted (described d)) s ≡ some ten → verdict d s ≡ answer REFUSED (some ten)
   unfolding verdict
-  told e = rw ((accepted_bytes↔ d).1 accepted, is-graph, e) refl
+  told e = rw ((accepted_bytes↔ d).1 accepted, is_graph, e) refl
 
   pub narrow_graph_refused : 32 < (described d).entries → (m : ℕ) → length (record_at s 0) ≡ 8 + 5 * m → verdict d s ≡ answer REFUSED (some ten)
-  narrow_graph_refused many m e = told (narrow_graph (described d) (wanted (described d)) s head is-graph many m e)
+  narrow_graph_refused many m e = told (narrow_graph (described d) (wanted (described d)) s head is_graph many m e)
 
   pub wide_graph_refused : (described d).entries ≤ 32 → (m : ℕ) → length (record_at s 0) ≡ 16 + 5 * m → verdict d s ≡ answer REFUSED (some ten)
-  wide_graph_refused few m e = told (wide_graph (described d) (wanted (described d)) s head is-graph few m e)
+  wide_graph_refused few m e = told (wide_graph (described d) (wanted (described d)) s head is_graph few m e)

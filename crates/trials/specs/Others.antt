@@ -25,7 +25,8 @@ use Rattle.encoding.specs.Encoding.{encode_graph, encode_record, encode_refutati
 use Rattle.intake.specs.Intake.{described}
 use Rattle.evidence.specs.Evidence.{layout_of}
 use Rattle.answers.specs.Answers.{REFUSED, INHABITED, EMPTY}
-use Rattle.demands.specs.Exact.{graph_of, inhabited_true, empty_true}
+use Rattle.demands.specs.Exact.{graph_of}
+use Rattle.demands.proofs.True.{inhabited_true, empty_true}
 use Rattle.trials.specs.Trials.{Trial, checks, Outcome, tells, outcome, told}
 
 -- records 0 to 2 of both refutations: names A 2, B 4 and C 6 with their complements

@@ -1,6 +1,6 @@
 use mathlib.Core.Path.{◌∙◌, sym, ap}
 use Rattle.answers.specs.Answers.{refusal_of}
-use Rattle.claims.specs.ClaimSteps.{claim_opened, claim_refused_lem}
+use Rattle.claims.proofs.ClaimSteps.{claim_opened, claim_refused_lem}
 use Rattle.claims.proofs.check_claim.Goals as goal
 
 pub returns-in-Fine : goal.returns-in-Fine

@@ -2,7 +2,8 @@ use mathlib.Core.Path.{◌∙◌, sym, ap}
 use Rattle.answers.specs.Answers.{refusal_of}
 use Rattle.graph_check.specs.GraphSteps.{graph_code}
 use Rattle.list_check.specs.CheckSteps.{list_code}
-use Rattle.claims.specs.ClaimSteps.{pieces_code, ends_in, literals_stop, pieces_end, list_stops, list_on}
+use Rattle.claims.specs.ClaimSteps.{pieces_code, ends_in}
+use Rattle.claims.proofs.ClaimSteps.{literals_stop, pieces_end, list_stops, list_on}
 use Rattle.claims.proofs.check_opened.Goals as goal
 
 pub returns-in_default : goal.returns-in_default

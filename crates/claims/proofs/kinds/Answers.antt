@@ -1,6 +1,6 @@
 use mathlib.Core.Path.{sym, ◌∙◌}
 use mathlib.Core.Bool.{true, false}
-use Rattle.claims.specs.ClaimSteps.{first_is, off_first}
+use Rattle.claims.proofs.ClaimSteps.{first_is, off_first}
 use Rattle.claims.proofs.kinds.Goals as goal
 
 pub returns-in-Off : goal.returns-in-Off

@@ -1,6 +1,6 @@
 use mathlib.Core.Path.{refl, sym, ◌∙◌}
 use Rattle.claims.specs.Claims.{pieces}
-use Rattle.claims.specs.ClaimSteps.{after_none, after_some, after_off, after_list}
+use Rattle.claims.proofs.ClaimSteps.{after_none, after_some, after_off, after_list}
 use Rattle.claims.proofs.kinds_after.Goals as goal
 
 pub returns-then-list : goal.returns-then-list
