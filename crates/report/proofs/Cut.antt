@@ -6,7 +6,8 @@ use Rattle.std.proofs.Math.Decide.{dec_le}
 use Rattle.parts.specs.Numbers.{num2}
 use Rattle.laying.specs.Places.{Small, small_none, small_more, small_at}
 use Rattle.verdict.specs.Verdict.{verdict}
-use Rattle.demands.specs.Cut.{farthest, cut_answers}
+use Rattle.demands.specs.Cut.{farthest}
+use Rattle.demands.proofs.Cut.{cut_answers}
 use Rattle.report.specs.Input.{description_in, evidence_in}
 use Rattle.report.specs.Cut.{answer_to, longest}
 

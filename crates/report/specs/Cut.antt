@@ -3,10 +3,6 @@ use Rattle.std.specs.Prelude.{ℕ, suc, ◌+◌, List}
 use Rattle.answers.specs.Answers.{Answer}
 use Rattle.verdict.specs.Verdict.{verdict}
 use Rattle.demands.specs.Cut.{farthest}
-<<<<<<< HEAD
-=======
-use Rattle.demands.proofs.Cut.{cut_answers}
->>>>>>> f6920597403b9d77a6e2c9462f1f4b2d4bc93041
 use Rattle.report.specs.Input.{description_in, evidence_in}
 
 -- what the program answers to an input
