@@ -32,7 +32,7 @@ use Rattle.graph_check.proofs.GraphJoin.{sample_is}
 use Rattle.line_writer.specs.Writing.{room_test, write_refused, write_answer, write_length, buffer_after}
 use Rattle.line_writer.specs.WriteSteps.{transitives_in}
 use Rattle.line_writer.specs.WriteBytes.{LaidLine, laid_line}
-use Rattle.line_writer.specs.WriteOrder.{size_in, After, says, long, after, room_in, ToldOf, OpenedTold, Told}
+use Rattle.line_writer.specs.WriteOrder.{size_in, After, room_in, ToldOf, OpenedTold, Told}
 
 -- ---- for an accepted description it is the answer of the writer
 -- the length of the graph's line
