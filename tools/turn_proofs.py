@@ -13,6 +13,7 @@ import re
 import shutil
 import subprocess
 import sys
+import tempfile
 
 NAME = r"[^\s(){};,.@\"«»]+"
 PLAIN = re.compile(r"(search rules|omega arith|refl|tt)$")
@@ -259,8 +260,8 @@ def turn(crate, path, folder, names):
         need = [it for it in heads if used(it, text) or it.endswith(" as goal")]
         with open(f"{folder}/{name}.antt", "w", encoding="utf-8") as it:
             it.write("\n".join(dict.fromkeys(cut(line, text) for line in need)) + "\n\n" + text + "\n")
-    os.makedirs(f"/tmp/turned/{crate}/{path}", exist_ok=True)
-    shutil.move(f"{folder}/Proof.antt", f"/tmp/turned/{crate}/{path}/Proof.antt")
+    os.makedirs(f"{tempfile.gettempdir()}/turned/{crate}/{path}", exist_ok=True)
+    shutil.move(f"{folder}/Proof.antt", f"{tempfile.gettempdir()}/turned/{crate}/{path}/Proof.antt")
     return fn.said
 
 
@@ -292,7 +293,7 @@ def cut(line, text):
 def main(crates):
     for crate in crates:
         where = f"crates/{crate}"
-        out = f"/tmp/old-names-{crate}"
+        out = f"{tempfile.gettempdir()}/old-names-{crate}"
         shutil.rmtree(out, ignore_errors=True)
         said = subprocess.run(["rt", "check", "--generated", out, "--old-names"], cwd=where, stdout=subprocess.PIPE, stderr=subprocess.STDOUT, text=True).stdout
         if not os.path.isfile(f"{out}/names.json"):
