@@ -1,55 +1,92 @@
 // What the tests and the public functions answer.
 #![tactic(auto)]
 
-// A test: nothing to refuse, or a refusal's number and record.
-#[derive(Clone, Copy)]
-pub enum Tested {
-    Fine,
-    Refused(u8, u8),
+ghost use Rattle.std.specs.Prelude.{◌≡◌};
+ghost use Rattle.answers.specs.Reasons.{number_of, refused};
+
+// What the tests refuse for, by their numbers in the table of refusals.
+#[derive(Clone, Copy, Debug, PartialEq, Eq)]
+pub enum Reason {
+    Directory = 1,
+    Part = 2,
+    Role = 3,
+    Entry = 4,
+    Simple = 5,
+    Twin = 6,
+    MissingEvery = 7,
+    Question = 8,
+    Head = 9,
+    Form = 10,
+    Label = 11,
+    Both = 12,
+    Edge = 13,
+    Every = 14,
+    Count = 15,
+    Cite = 16,
+    Step = 17,
+    Cell = 18,
+    Tree = 19,
+    End = 20,
+    Big = 21,
+    Short = 22,
+    LineForm = 23,
+    Claim = 24,
+    Full = 25,
+    Disjoint = 26,
 }
 
-// The answer to evidence.
-#[derive(Clone, Copy)]
+// A refusal: for what, and of which record; 0 where no record is at fault.
+#[derive(Clone, Copy, Debug, PartialEq, Eq)]
+pub struct Refusal {
+    pub reason: Reason,
+    pub place: u8,
+}
+
+impl Reason {
+    // The number in the table of refusals.
+    pub fn number(self) -> u8
+        ensures { result ≡ number_of self }
+    {
+        self as u8
+    }
+
+    // The refusal of record `place`.
+    pub fn at(self, place: u8) -> Refusal
+        ensures { result ≡ refused self place }
+    {
+        Refusal {
+            reason: self,
+            place,
+        }
+    }
+
+    // The refusal of a whole.
+    pub fn whole(self) -> Refusal
+        ensures { result ≡ refused self 0 }
+    {
+        self.at(0)
+    }
+}
+
+// The answer to evidence. No Result: the owner names this form, two plain cases and a refusal (docs/DECISIONS.md, section 3).
+#[derive(Clone, Copy, Debug, PartialEq, Eq)]
 pub enum Verdict {
     Inhabited,
     Empty,
-    Refused(u8, u8),
+    Refused(Refusal),
 }
 
-// The answer on a claim "every C is D".
-#[derive(Clone, Copy)]
+// The answer on a claim "every C is D" that nothing refuses.
+#[derive(Clone, Copy, Debug, PartialEq, Eq)]
 pub enum Judgement {
     Holds,
     Fails,
     HoldsOfNothing,
-    Refused(u8, u8),
 }
 
-// The answer of the line writer: the length of the line that it wrote.
-#[derive(Clone, Copy)]
-pub enum Written {
-    Line(usize),
-    Refused(u8, u8),
-}
-
-// The answer of the direct reading of a line.
-#[derive(Clone, Copy)]
+// The answer of the direct reading of a line that nothing refuses.
+#[derive(Clone, Copy, Debug, PartialEq, Eq)]
 pub enum Reading {
     Holds,
     Fails,
-    Refused(u8, u8),
-}
-
-// The answer of an operation of the editor.
-#[derive(Clone, Copy)]
-pub enum Change {
-    Done,
-    Refused(u8, u8),
-}
-
-// The answer of a writer: how many bytes it wrote.
-#[derive(Clone, Copy)]
-pub enum Output {
-    Bytes(usize),
-    Refused(u8, u8),
 }

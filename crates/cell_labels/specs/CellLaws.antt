@@ -5,7 +5,6 @@ use Rattle.std.proofs.Math.Path.{ap}
 use Rattle.std.proofs.Math.Logic.{inl, inr}
 use Rattle.std.proofs.Math.Bool.{or-false, or_assoc}
 use Rattle.std.proofs.lemmas.Bool.{false≢true}
-use Rattle.std.proofs.Math.Option.{none}
 use Rattle.std.proofs.Math.Decide.{dec_lt}
 use Rattle.std.specs.Int.Bits.{bit_and, bit_or}
 use Rattle.std.proofs.Math.Dec.{eqb}
@@ -21,7 +20,6 @@ use Rattle.tables.specs.Tables.{fields_at}
 use Rattle.tables.specs.Concepts.{concept_of, concept_at}
 use Rattle.tables.specs.declared.Concept.{Concept}
 use Rattle.tables.specs.declared.Concept.TheVariants.{Top, Name, Both, Every, AtLeast}
-use Rattle.rows.specs.declared.Row as Held
 use Rattle.cell_labels.specs.CellShows.{room, is_every, passes, entry_in, in_room, Puts}
 
 -- ---- labels that grow

@@ -2,12 +2,11 @@
 use Rattle.std.specs.Prelude.{ℕ, zero, suc, ◌+◌, ◌%◌, ◌≤◌, ◌<◌, ◌≡◌, refl, Bool, true, false, cond, ◌&&◌, ◌||◌, List, eqb, ltb, length, get_or, set, replicate}
 use Rattle.std.proofs.Common.{sym, ◌∙◌, subst, inl, inr, arith, lt-ltb, le-ltb, length-set, get_or-set_same, get_or-set_other, get_or-take}
 use Rattle.std.proofs.Math.Path.{ap}
-use Rattle.std.proofs.Math.Option.{none}
 use Rattle.std.proofs.Math.Decide.{dec_lt}
 use Rattle.logic.specs.Tests.{So, decide, and_l, and_r, or_cases, same_test, so_eqb, eqb↔, so_ltb, ltb_so}
 use Rattle.logic.specs.Bounded.{any_below, any_elim}
 use Rattle.logic.specs.Sums.{only}
-use Rattle.logic.specs.Sets.{has, within, set_of}
+use Rattle.logic.specs.Sets.{has, set_of}
 use Rattle.logic.specs.SetLaws.{no_member, has_none, set_ext}
 use Rattle.parts.specs.Numbers.{up_to}
 use Rattle.labels.specs.Labels.{label_with, value_of, no_label}
@@ -162,6 +161,11 @@ six_row rows k i x f h e = elim (dec_lt i k) [
   where
     inside : i < k → i < up_to 6 k
     inside l = elim (dec_lt k 6) [ yes g ↦ rw (lt-ltb k 6 g) l | no g ↦ (let z : 6 ≤ k = omega arith in rw (le-ltb k 6 z) h) ]
+
+-- an array that is made of what each of the first k rows gives
+pub six_made : {A : Type 0} {v : A → ℕ} {d : A} (rows : List Held.Row) (k : ℕ) (f : Held.Row → ℕ) (out : List A) → length out ≡ 6
+    → ((i : ℕ) → i < 6 → v (get_or out i d) ≡ only (ltb i k) (f (first_at rows k i))) → SixOf v d (λ i. f (held_at rows i)) k out
+six_made rows k f out s h = record { size = s; at = λ i l. h i l ∙ six_row rows k i _ f l refl }
 
 -- ---- labels that grow together
 -- each label of `new` has what that of `old` has, and of what passes p what fits

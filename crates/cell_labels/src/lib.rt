@@ -14,10 +14,11 @@ ghost use Rattle.cell_labels.specs.CellRows.{only_if, Masks, Labels, mask_at, Gr
 use labels::{Label, empty, holds, join, only, put};
 use nodes::opposite;
 use roles::disjoint::role_bit;
-use roles::has16;
 use rows::{Row, row_at};
 use sources::is_carried;
+use std::array;
 use tables::{EntryNo, Fields, RoleNo, entry_count, fields_at};
+use words::Bits;
 
 // The label with the literal `l`, if that is asked.
 fn put_if(x: Label, l: u8, asked: bool) -> Label
@@ -72,58 +73,44 @@ fn qualified_by(row: Row, there: bool) -> Label
     if there { only(row.qualifier) } else { empty() }
 }
 
-// The ancestors of the role of each of the first `k` rows. These loops go to 6 and not to `k`: so known a number is unrolled,
-// and the array lies in no memory of its own.
+// The ancestors of the role of each of the first `k` rows.
 pub fn above_of(m: &[u16; 49], rows: [Row; 6], k: u8) -> [u16; 6]
     ensures { Masks (λ i. above_of m.now (given (held_at rows i))) k result × ((i : ℕ) → i < 6 → mask_at result i < 65536) }
 {
-    let mut out: [u16; 6] = [0; 6];
-    let mut i: u8 = 0;
-    while i < 6 {
-        out[i as usize] = above_by(m, row_at(rows, k, i), i < k);
-        i += 1;
-    }
-    out
+    array::from_fn(|i| {
+        let i = i as u8;
+        above_by(m, row_at(rows, k, i), i < k)
+    })
 }
 
 // The mask of the role of each of the first `k` rows.
 pub fn own_of(rows: [Row; 6], k: u8) -> [u16; 6]
     ensures { Masks (λ i. bit_of (given (held_at rows i))) k result }
 {
-    let mut out: [u16; 6] = [0; 6];
-    let mut i: u8 = 0;
-    while i < 6 {
-        out[i as usize] = own_by(row_at(rows, k, i), i < k);
-        i += 1;
-    }
-    out
+    array::from_fn(|i| {
+        let i = i as u8;
+        own_by(row_at(rows, k, i), i < k)
+    })
 }
 
 // What each of the first `k` rows shows of other cells that have its role.
 pub fn against_of(rows: [Row; 6], k: u8) -> [u8; 6]
     ensures { Masks (λ i. denied_by (given (held_at rows i))) k result }
 {
-    let mut out: [u8; 6] = [0; 6];
-    let mut i: u8 = 0;
-    while i < 6 {
-        out[i as usize] = against_by(row_at(rows, k, i), i < k);
-        i += 1;
-    }
-    out
+    array::from_fn(|i| {
+        let i = i as u8;
+        against_by(row_at(rows, k, i), i < k)
+    })
 }
 
 // The qualifier of each of the first `k` rows.
 fn qualified_of(rows: [Row; 6], k: u8) -> [Label; 6]
     ensures { Labels (λ i. label_with 0 (held_at rows i).qualifier) k result }
 {
-    let none = empty();
-    let mut out = [none; 6];
-    let mut i: u8 = 0;
-    while i < 6 {
-        out[i as usize] = qualified_by(row_at(rows, k, i), i < k);
-        i += 1;
-    }
-    out
+    array::from_fn(|i| {
+        let i = i as u8;
+        qualified_by(row_at(rows, k, i), i < k)
+    })
 }
 
 // What "every t l", entry `f`, shows of a cell that has the role: `l` if the label `x` holds the entry,
@@ -143,14 +130,7 @@ fn with_passed(old: [Label; 6], above: [u16; 6], t: RoleNo, y: Label) -> [Label;
     requires { length old ≡ 6 }
     ensures { Grown old result (λ i l. has (mask_at above i) t.0 && has (value_of y) l) }
 {
-    let mut out = old;
-    let mut i: u8 = 0;
-    while i < 6 {
-        let x = out[i as usize];
-        out[i as usize] = add_if(x, y, has16(above[i as usize], t.0));
-        i += 1;
-    }
-    out
+    array::from_fn(|i| add_if(old[i], y, above[i].has(t.0)))
 }
 
 // Each label with what entry `f`, with the fields `g`, shows of a cell of the row; `carry` has the ancestors of its role if that is transitive.
@@ -192,13 +172,11 @@ pub fn shown_of(
 {
     let n = entry_count(cs);
     let mut out = qualified_of(rows, k);
-    let mut f: u8 = 0;
-    while f < n {
+    for f in 0..n {
         let g = fields_at(cs, EntryNo(f));
         let carry = m[(16 + g.role % 16) as usize];
         let next = with_every(out, cs, g, carry, x, above, EntryNo(f));
         out = next;
-        f += 1;
     }
     out
 }
@@ -207,7 +185,7 @@ pub fn shown_of(
 fn meet(x: u16, y: u16) -> bool
     ensures { result ≡ any_below 16 (λ t. has x t && has y t) }
 {
-    x & y != 0
+    x.meets(y)
 }
 
 // The label with what a row shows of a cell: `shown` if it is within the row, `against` if it is outside and has the role.
@@ -228,17 +206,15 @@ pub fn known_label(roles: u16, own: [u16; 6], shown: [Label; 6], against: [u8; 6
     ensures { value_of result ≡ gathered_by (has roles) own shown against c }
 {
     let mut out = only(0);
-    let mut i: u8 = 0;
-    while i < 6 {
+    for i in 0..6u8 {
         let inside = shown[i as usize];
         out = with_row(
             out,
-            has16(c as u16, i),
+            (c as u16).has(i),
             inside,
             meet(roles, own[i as usize]),
             against[i as usize],
         );
-        i += 1;
     }
     out
 }

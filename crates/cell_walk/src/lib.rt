@@ -8,7 +8,7 @@ ghost use Rattle.logic.specs.Sets.{has};
 ghost use Rattle.cell_walk.specs.Walks.{changes_up_to, roles_in, Walked, Corrected};
 ghost use Rattle.cell_walk.specs.WalkLaws.{FirstChange};
 
-use roles::has16;
+use words::Bits;
 
 // The roles `x`, with those of `y` if the row comes in.
 fn join_if(x: u16, y: u16, inside: bool) -> u16
@@ -22,12 +22,10 @@ fn join_if(x: u16, y: u16, inside: bool) -> u16
 fn rows_changed(c: u8) -> u8
     ensures { FirstChange c result }
 {
-    let mut i: u8 = 0;
-    while i < 6 {
-        if !has16(c as u16, i) {
+    for i in 0..6 {
+        if !(c as u16).has(i) {
             return i + 1;
         }
-        i += 1;
     }
     6
 }
@@ -42,13 +40,11 @@ pub fn next_cell(from: &mut [u16; 7], above: &[u16; 6], c: u8) -> u8
         → Walked above.now (c + 1) from.new }
 {
     let n = rows_changed(c);
-    let mut i: u8 = n;
-    while 0 < i {
-        i -= 1;
+    for i in (0..n).rev() {
         from[i as usize] = join_if(
             from[(i + 1) as usize],
             above[i as usize],
-            has16(c as u16 + 1, i),
+            (c as u16 + 1).has(i),
         );
     }
     n

@@ -1,5 +1,6 @@
 -- Cites: only earlier records (refusal 16), and labels with literals put in (01, "Evidence", Closing list).
-use Rattle.std.specs.Prelude.{ℕ, ◌^◌, ◌≤◌, ◌<◌, ◌≡◌, refl, Bool, cond, ltb}
+use Rattle.std.specs.Prelude as Rust
+use Rattle.std.specs.Prelude.{Some, None, Ok, Err, ok_or, is_some, ℕ, ◌^◌, ◌≤◌, ◌<◌, ◌≡◌, refl, Bool, cond, ltb}
 use Rattle.std.proofs.Common.{sym, ◌∙◌, ap, lt-ltb, le-ltb}
 use Rattle.std.proofs.Math.Logic.{inl, inr}
 use Rattle.std.proofs.Math.Bool.{true, false}
@@ -15,17 +16,15 @@ use Rattle.description.specs.Descriptions.{Description}
 use Rattle.refutation.specs.Records.{Step}
 use Rattle.refutation.specs.RecordTests.{cite_test, step_test}
 use Rattle.labels.specs.Labels.{most_entries, most_literals, label_with}
-use Rattle.cites.specs.declared.Cite.{Cite}
-use Rattle.cites.specs.declared.Cite.TheVariants.{Earlier, Bad}
 
 -- what record i finds where it cites record j
-unfoldable pub cite_of : ℕ → ℕ → Cite
-cite_of i j = cond (ltb j i) (Earlier j) Bad
+unfoldable pub cite_of : ℕ → ℕ → Rust.Option ℕ
+cite_of i j = cond (ltb j i) (Some j) None
 
 -- the paper's number of each case
-abbrev pub cite_refusal : Cite → Option ℕ
-cite_refusal (Earlier j) = none
-cite_refusal Bad = some 16
+abbrev pub cite_refusal : Rust.Option ℕ → Option ℕ
+cite_refusal (Some j) = none
+cite_refusal None = some 16
 
 -- entry e, or its complement
 abbrev pub of_entry : ℕ → Bool → Literal
@@ -37,38 +36,55 @@ unfoldable pub named_refusal : Description → (ℕ → ℕ) → ℕ → ℕ →
 named_refusal D num i N x = unless (cite_test D num i N x) 16 (unless (step_test D num i N x) 17 none)
 
 -- ---- laws for the code
-pub cite_earlier : (i j : ℕ) → j < i → Earlier j ≡ cite_of i j
+pub cite_earlier : (i j : ℕ) → j < i → Some j ≡ cite_of i j
 unfolding cite_of
 cite_earlier i j h = rw (lt-ltb j i h) refl
 
-pub cite_bad : (i j : ℕ) → i ≤ j → Bad ≡ cite_of i j
+pub cite_bad : (i j : ℕ) → i ≤ j → None ≡ cite_of i j
 unfolding cite_of
 cite_bad i j h = rw (le-ltb j i h) refl
 
-pub cite_told : (i j : ℕ) (x : Cite) → x ≡ cite_of i j → (x ≡ cite_of i j) × (cite_refusal x ≡ unless (ltb j i) 16 none)
+pub cite_told : (i j : ℕ) (x : Rust.Option ℕ) → x ≡ cite_of i j → (x ≡ cite_of i j) × (cite_refusal x ≡ unless (ltb j i) 16 none)
 unfolding cite_of
 cite_told i j x e = (e, ap cite_refusal e ∙ go (ltb j i))
   where
-    go : (b : Bool) → cite_refusal (cond b (Earlier j) Bad) ≡ unless b 16 none
+    go : (b : Bool) → cite_refusal (cond b (Some j) None) ≡ unless b 16 none
     go true = refl
     go false = refl
 
 -- and what the answer says
-pub is_earlier : (i j c : ℕ) (x : Cite) → x ≡ cite_of i j → x ≡ Earlier c → (ltb j i ≡ true) × (c ≡ j)
+pub is_earlier : (i j c : ℕ) (x : Rust.Option ℕ) → x ≡ cite_of i j → x ≡ Some c → (ltb j i ≡ true) × (c ≡ j)
 unfolding cite_of
 is_earlier i j c x e q = go (ltb j i) (sym q ∙ e)
   where
-    go : (b : Bool) → Earlier c ≡ cond b (Earlier j) Bad → (b ≡ true) × (c ≡ j)
+    go : (b : Bool) → Some c ≡ cond b (Some j) None → (b ≡ true) × (c ≡ j)
     go true h = (refl, cc)
     go false h = absurd (let z : ◌≡◌ {A = ℕ} 0 1 = cc in omega arith)
 
-pub is_bad : (i j : ℕ) (x : Cite) → x ≡ cite_of i j → x ≡ Bad → ltb j i ≡ false
+pub is_bad : (i j : ℕ) (x : Rust.Option ℕ) → x ≡ cite_of i j → x ≡ None → ltb j i ≡ false
 unfolding cite_of
 is_bad i j x e q = go (ltb j i) (sym q ∙ e)
   where
-    go : (b : Bool) → Bad ≡ cond b (Earlier j) Bad → b ≡ false
+    go : (b : Bool) → None ≡ cond b (Some j) None → b ≡ false
     go true h = absurd (let z : ◌≡◌ {A = ℕ} 0 1 = cc in omega arith)
     go false h = refl
+
+pub cite_there : (i j : ℕ) (x : Rust.Option ℕ) (t : Bool) → x ≡ cite_of i j → t ≡ is_some x → ltb j i ≡ t
+unfolding cite_of
+cite_there i j x t e q = sym (q ∙ ap is_some e ∙ go (ltb j i))
+  where
+    go : (b : Bool) → is_some (cond b (Some j) None) ≡ b
+    go true = refl
+    go false = refl
+
+-- the same where a refusal r stands for a cite that is bad
+pub cite_ok : {E : Type 0} (i j c : ℕ) (x : Rust.Option ℕ) (r : E) → x ≡ cite_of i j → Ok c ≡ ok_or x r → (ltb j i ≡ true) × (c ≡ j)
+cite_ok i j c None r e q = absurd (let z : ◌≡◌ {A = ℕ} 0 1 = cc in omega arith)
+cite_ok i j c (Some d) r e q = is_earlier i j c (Some d) e cc
+
+pub cite_err : {E : Type 0} (i j : ℕ) (x : Rust.Option ℕ) (r z : E) → x ≡ cite_of i j → Err z ≡ ok_or x r → (ltb j i ≡ false) × (z ≡ r)
+cite_err i j None r z e q = (is_bad i j None e refl, cc)
+cite_err i j (Some d) r z e q = absurd (let z : ◌≡◌ {A = ℕ} 0 1 = cc in omega arith)
 
 -- a label asks nothing of the literals past its room
 module _ (M : ℕ) (few : M < 2 ^ most_literals) where

@@ -14,18 +14,11 @@ use evidence::{Layout, record_label};
 use labels::{Label, MOST_ENTRIES, lies_within, put};
 use tables::EntryNo;
 
-// What a cite finds: a record before the one that cites, or nothing.
-#[derive(Clone, Copy)]
-pub enum Cite {
-    Earlier(u8),
-    Bad,
-}
-
-// The record `j`, cited by record `i`.
-pub fn look_up(i: u8, j: u8) -> Cite
+// The record `j`, cited by record `i`, if it stands before that.
+pub fn look_up(i: u8, j: u8) -> Option<u8>
     ensures { (result ≡ cite_of i j) × (cite_refusal result ≡ unless (ltb j i) 16 none) }
 {
-    if j < i { Cite::Earlier(j) } else { Cite::Bad }
+    if j < i { Some(j) } else { None }
 }
 
 // Whether the label of record `c` lies within `x` with `a` put in.

@@ -1,5 +1,6 @@
 -- A claim's tests as the code makes them.
-use Rattle.std.specs.Prelude.{ℕ, ◌/◌, Bool, cond, ◌&&◌, List, ltb, length}
+use Rattle.std.specs.Prelude.{ℕ, ◌/◌, Bool, cond, ◌&&◌, List, ltb, length, Some, Result, Ok, Err}
+use Rattle.std.specs.Prelude as Code
 use Rattle.std.proofs.Math.Option.{Option, none}
 use Rattle.logic.specs.Refusals.{Refusal, unless, refuse, first_of}
 use Rattle.labels.specs.Labels.{label_with}
@@ -8,9 +9,10 @@ use Rattle.evidence.specs.declared.Head.{Head}
 use Rattle.evidence.specs.declared.Head.TheVariants.{GraphOf, RefutationOf}
 use Rattle.graph_check.specs.GraphSteps.{graph_code}
 use Rattle.list_check.specs.CheckSteps.{list_code}
-use Rattle.answers.specs.Answers.{Answer, answer, wholly}
+use Rattle.answers.specs.declared.Refusal as Refusals
+use Rattle.answers.specs.Answers.{Answer, answer}
 use Rattle.claims.specs.declared.Pieces.{Pieces}
-use Rattle.claims.specs.declared.Pieces.TheVariants.{ListAndGraph, GraphAlone, ListAlone, Misfit, Off}
+use Rattle.claims.specs.declared.Pieces.TheVariants.{ListAndGraph, GraphAlone, ListAlone}
 use Rattle.claims.specs.Claims.{second_of, pieces, pieces_of, kinds_refusal, shows}
 
 -- C and not D as a set
@@ -26,24 +28,19 @@ abbrev pub literals_code : List ℕ → ℕ → ℕ → Option ℕ
 literals_code cs c d = unless (in_table cs c && in_table cs d) 24 none
 
 -- the head of a list, or else of a graph, of n records
-abbrev pub head_for : Bool → ℕ → Head
-head_for list n = cond list (RefutationOf n) (GraphOf n)
+abbrev pub head_for : Bool → ℕ → Code.Option Head
+head_for list n = cond list (Some (RefutationOf n)) (Some (GraphOf n))
 
 -- the kinds where the first piece is a list, or else a graph, of any number of records
-abbrev pub kinds_after : Bool → List ℕ → Pieces
+abbrev pub kinds_after : Bool → List ℕ → Result Pieces Refusals.Refusal
 kinds_after list t = pieces (head_for list 0) (second_of t)
 
 -- 10 to 20 of the pieces, by the masks a of m roles
-abbrev pub pieces_code : Bool → List ℕ → ℕ → List ℕ → List ℕ → ℕ → ℕ → List ℕ → List ℕ → Pieces → Option Refusal
-pieces_code b a m cs qs c d s t ListAndGraph = first_of (list_code b a cs qs (counter_set c d) s) (graph_code a m cs qs (label_with 0 c) t)
-pieces_code b a m cs qs c d s t GraphAlone = graph_code a m cs qs (counter_set c d) s
-pieces_code b a m cs qs c d s t ListAlone = list_code b a cs qs (label_with 0 c) s
-pieces_code b a m cs qs c d s t Misfit = none
-pieces_code b a m cs qs c d s t Off = none
-
--- the answer that tests of the pieces end in
-abbrev pub ends_in : Pieces → Option Refusal → Answer
-ends_in p o = answer (shows p) (first_of o (wholly (kinds_refusal p)))
+abbrev pub pieces_code : Bool → List ℕ → ℕ → List ℕ → List ℕ → ℕ → ℕ → List ℕ → List ℕ → Result Pieces Refusals.Refusal → Option Refusal
+pieces_code b a m cs qs c d s t (Ok ListAndGraph) = first_of (list_code b a cs qs (counter_set c d) s) (graph_code a m cs qs (label_with 0 c) t)
+pieces_code b a m cs qs c d s t (Ok GraphAlone) = graph_code a m cs qs (counter_set c d) s
+pieces_code b a m cs qs c d s t (Ok ListAlone) = list_code b a cs qs (label_with 0 c) s
+pieces_code b a m cs qs c d s t (Err r) = none
 
 -- the answer on an opened description, without or with a fourth part
 unfoldable pub opened_claim : Bool → List ℕ → ℕ → List ℕ → List ℕ → ℕ → ℕ → List ℕ → List ℕ → Answer

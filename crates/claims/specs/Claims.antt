@@ -1,5 +1,6 @@
 -- Claims "every C is D", with one or two pieces of evidence, and the answer on one (02, job 1; FORMAT 11).
-use Rattle.std.specs.Prelude.{ℕ, cond, ◌&&◌, List, [], ◌∷◌, eqb, length}
+use Rattle.std.specs.Prelude.{ℕ, cond, ◌&&◌, List, [], ◌∷◌, eqb, length, Some, None, Result, Ok, Err}
+use Rattle.std.specs.Prelude as Code
 use Rattle.std.proofs.Math.Option.{Option, none, some}
 use Rattle.logic.specs.Refusals.{Refusal, unless, refuse, first_of}
 use Rattle.description.specs.Literals.{Literal, literal, opposite}
@@ -8,13 +9,15 @@ use Rattle.description.specs.Acceptance.{literal_test}
 use Rattle.intake.specs.Intake.{bytes_test, described}
 use Rattle.evidence.specs.Evidence.{head_of}
 use Rattle.evidence.specs.declared.Head.{Head}
-use Rattle.evidence.specs.declared.Head as Heads
 use Rattle.evidence.specs.declared.Head.TheVariants.{GraphOf, RefutationOf}
 use Rattle.graph_check.specs.GraphEvidence.{graph_tests}
 use Rattle.lists.specs.ListEvidence.{list_tests}
+use Rattle.answers.specs.declared.Refusal as Refusals
+use Rattle.answers.specs.declared.Reason.TheVariants as Reasons
+use Rattle.answers.specs.Reasons.{number_of, refused}
 use Rattle.answers.specs.Answers.{Word, Answer, answer, REFUSED, HOLDS, FAILS, HOLDS_OF_NOTHING}
 use Rattle.claims.specs.declared.Pieces.{Pieces}
-use Rattle.claims.specs.declared.Pieces.TheVariants.{ListAndGraph, GraphAlone, ListAlone, Misfit, Off}
+use Rattle.claims.specs.declared.Pieces.TheVariants.{ListAndGraph, GraphAlone, ListAlone}
 
 -- c and d are the numbers of the literals C and D throughout, x the bytes of a description, s and t those of the pieces.
 -- What is wanted: of an element that the claim speaks of, C; of one that breaks it, C and not D
@@ -29,47 +32,42 @@ abbrev pub claim_test : Description → ℕ → ℕ → Option ℕ
 claim_test D c d = unless (literal_test D (literal c) && literal_test D (literal d)) 24 none
 
 -- the second piece may be empty; 9 is not asked of it then
-abbrev pub second_of : List ℕ → Option Head
+abbrev pub second_of : List ℕ → Option (Code.Option Head)
 second_of t = cond (eqb (length t) 0) none (some (head_of t))
 
--- what the pieces are, the first and then the second: three that fit an answer; others; a piece that is no evidence
-unfoldable pub pieces : Head → Option Head → Pieces
-pieces Heads.TheVariants.Off t = Off
-pieces (GraphOf n) (some Heads.TheVariants.Off) = Off
-pieces (RefutationOf n) (some Heads.TheVariants.Off) = Off
-pieces (RefutationOf n) (some (GraphOf m)) = ListAndGraph
-pieces (GraphOf n) none = GraphAlone
-pieces (RefutationOf n) none = ListAlone
-pieces (GraphOf n) (some (GraphOf m)) = Misfit
-pieces (GraphOf n) (some (RefutationOf m)) = Misfit
-pieces (RefutationOf n) (some (RefutationOf m)) = Misfit
+-- what the pieces are, the first and then the second: three kinds that fit an answer; 9 of a piece that is no evidence, and 24 of other kinds
+unfoldable pub pieces : Code.Option Head → Option (Code.Option Head) → Result Pieces Refusals.Refusal
+pieces None t = Err (refused Reasons.Head 0)
+pieces (Some (GraphOf n)) (some None) = Err (refused Reasons.Head 0)
+pieces (Some (RefutationOf n)) (some None) = Err (refused Reasons.Head 0)
+pieces (Some (RefutationOf n)) (some (Some (GraphOf m))) = Ok ListAndGraph
+pieces (Some (GraphOf n)) none = Ok GraphAlone
+pieces (Some (RefutationOf n)) none = Ok ListAlone
+pieces (Some (GraphOf n)) (some (Some (GraphOf m))) = Err (refused Reasons.Claim 0)
+pieces (Some (GraphOf n)) (some (Some (RefutationOf m))) = Err (refused Reasons.Claim 0)
+pieces (Some (RefutationOf n)) (some (Some (RefutationOf m))) = Err (refused Reasons.Claim 0)
 
-abbrev pub pieces_of : List ℕ → List ℕ → Pieces
+abbrev pub pieces_of : List ℕ → List ℕ → Result Pieces Refusals.Refusal
 pieces_of s t = pieces (head_of s) (second_of t)
 
 -- 9 of either piece, then 24 of kinds that fit no answer
-abbrev pub kinds_refusal : Pieces → Option ℕ
-kinds_refusal Off = some 9
-kinds_refusal Misfit = some 24
-kinds_refusal ListAndGraph = none
-kinds_refusal GraphAlone = none
-kinds_refusal ListAlone = none
+abbrev pub kinds_refusal : Result Pieces Refusals.Refusal → Option ℕ
+kinds_refusal (Ok p) = none
+kinds_refusal (Err r) = some (number_of r.reason)
 
--- what pieces of each kind show, if nothing refuses them; the last two are refused already
-abbrev pub shows : Pieces → Word
-shows ListAndGraph = HOLDS
-shows GraphAlone = FAILS
-shows ListAlone = HOLDS_OF_NOTHING
-shows Misfit = REFUSED
-shows Off = REFUSED
+-- what pieces of each kind show, if nothing refuses them
+abbrev pub shows : Result Pieces Refusals.Refusal → Word
+shows (Ok ListAndGraph) = HOLDS
+shows (Ok GraphAlone) = FAILS
+shows (Ok ListAlone) = HOLDS_OF_NOTHING
+shows (Err r) = REFUSED
 
 -- 10 to 20, with what each answer wants of its pieces (their 9 has passed): the first piece whole, then the second
-abbrev pub pieces_tests : Description → ℕ → ℕ → List ℕ → List ℕ → Pieces → Option Refusal
-pieces_tests D c d s t ListAndGraph = first_of (list_tests D (counterexample c d) s) (graph_tests D (subject c) t)
-pieces_tests D c d s t GraphAlone = graph_tests D (counterexample c d) s
-pieces_tests D c d s t ListAlone = list_tests D (subject c) s
-pieces_tests D c d s t Misfit = none
-pieces_tests D c d s t Off = none
+abbrev pub pieces_tests : Description → ℕ → ℕ → List ℕ → List ℕ → Result Pieces Refusals.Refusal → Option Refusal
+pieces_tests D c d s t (Ok ListAndGraph) = first_of (list_tests D (counterexample c d) s) (graph_tests D (subject c) t)
+pieces_tests D c d s t (Ok GraphAlone) = graph_tests D (counterexample c d) s
+pieces_tests D c d s t (Ok ListAlone) = list_tests D (subject c) s
+pieces_tests D c d s t (Err r) = none
 
 -- in this order: 1 to 8; 26; 24 of the literals; 9 and 24 of the pieces; 10 to 20
 abbrev pub claim_refused : List ℕ → ℕ → ℕ → List ℕ → List ℕ → Option Refusal

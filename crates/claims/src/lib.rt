@@ -5,9 +5,9 @@ ghost use Rattle.std.specs.Prelude.{◌≡◌};
 ghost use Rattle.labels.specs.Labels.{value_of};
 ghost use Rattle.answers.specs.Answers.{refusal_of, wholly, of_judgement};
 ghost use Rattle.claims.specs.Claims.{pieces_of, claim_answer};
-ghost use Rattle.claims.specs.ClaimSteps.{counter_set, in_table, literals_code, kinds_after, ends_in, opened_claim};
+ghost use Rattle.claims.specs.ClaimSteps.{counter_set, in_table, literals_code, kinds_after, opened_claim};
 
-use answers::{Judgement, Tested};
+use answers::{Judgement, Reason, Refusal};
 use directory::{concepts_part, has_four, query_part};
 use evidence::{Head, read_head};
 use graph_check::test_graph;
@@ -30,48 +30,46 @@ struct Shape {
     marks: bool,
 }
 
-// The kinds of the pieces of evidence, in the order given.
-#[derive(Clone, Copy)]
+// The kinds of the pieces of evidence that fit an answer, in the order given.
+#[derive(Clone, Copy, Debug, PartialEq, Eq)]
 pub enum Pieces {
     ListAndGraph,
     GraphAlone,
     ListAlone,
-    Misfit,
-    Off,
 }
 
 // The kinds where the first piece is a list, or else a graph.
-fn kinds_after(list: bool, second: &[u8]) -> Pieces
+fn kinds_after(list: bool, second: &[u8]) -> Result<Pieces, Refusal>
     ensures { result ≡ kinds_after list second.now }
 {
     if second.len() == 0 {
-        if list {
-            return Pieces::ListAlone;
-        }
-        return Pieces::GraphAlone;
+        return Ok(if list {
+            Pieces::ListAlone
+        } else {
+            Pieces::GraphAlone
+        });
     }
-    let head = read_head(second);
-    match head {
-        Head::Off => Pieces::Off,
-        Head::GraphOf(_) => {
+    match read_head(second) {
+        Some(Head::GraphOf(_)) => {
             if list {
-                return Pieces::ListAndGraph;
+                Ok(Pieces::ListAndGraph)
+            } else {
+                Err(Reason::Claim.whole())
             }
-            Pieces::Misfit
         }
-        Head::RefutationOf(_) => Pieces::Misfit,
+        Some(Head::RefutationOf(_)) => Err(Reason::Claim.whole()),
+        None => Err(Reason::Head.whole()),
     }
 }
 
 // The kinds of both pieces, read from their heads alone.
-fn kinds(first: &[u8], second: &[u8]) -> Pieces
+fn kinds(first: &[u8], second: &[u8]) -> Result<Pieces, Refusal>
     ensures { result ≡ pieces_of first.now second.now }
 {
-    let head = read_head(first);
-    match head {
-        Head::Off => Pieces::Off,
-        Head::GraphOf(_) => kinds_after(false, second),
-        Head::RefutationOf(_) => kinds_after(true, second),
+    match read_head(first) {
+        Some(Head::GraphOf(_)) => kinds_after(false, second),
+        Some(Head::RefutationOf(_)) => kinds_after(true, second),
+        None => Err(Reason::Head.whole()),
     }
 }
 
@@ -86,33 +84,17 @@ fn counterexample(k: Claim) -> Label
 fn in_table(cs: &[u8], l: u8) -> bool
     ensures { result ≡ in_table cs.now l }
 {
-    ((l / 2) as usize) < cs.len() / 6
+    usize::from(l / 2) < cs.len() / 6
 }
 
 // Test 24 of the literals.
-fn test_literals(cs: &[u8], k: Claim) -> Tested
+fn test_literals(cs: &[u8], k: Claim) -> Result<(), Refusal>
     ensures { refusal_of result ≡ wholly (literals_code cs.now k.c k.d) }
 {
     if !(in_table(cs, k.c) & in_table(cs, k.d)) {
-        return Tested::Refused(24, 0);
+        return Err(Reason::Claim.whole());
     }
-    Tested::Fine
-}
-
-// The answer that tests of pieces of these kinds end in.
-fn told(t: Tested, p: Pieces) -> Judgement
-    ensures { of_judgement result ≡ ends_in p (refusal_of t) }
-{
-    match t {
-        Tested::Refused(n, i) => Judgement::Refused(n, i),
-        Tested::Fine => match p {
-            Pieces::ListAndGraph => Judgement::Holds,
-            Pieces::GraphAlone => Judgement::Fails,
-            Pieces::ListAlone => Judgement::HoldsOfNothing,
-            Pieces::Misfit => Judgement::Refused(24, 0),
-            Pieces::Off => Judgement::Refused(9, 0),
-        },
-    }
+    Ok(())
 }
 
 // The answer on an opened description with a claim, by the masks of its roles.
@@ -124,47 +106,49 @@ fn check_opened(
     k: Claim,
     first: &[u8],
     second: &[u8],
-) -> Judgement
+) -> Result<Judgement, Refusal>
     ensures { of_judgement result ≡ opened_claim shape.marks m.now shape.roles cs.now qs.now k.c k.d first.now second.now }
 {
-    let p = kinds(first, second);
-    let t = test_literals(cs, k);
-    let Tested::Fine = t else {
-        return told(t, p);
-    };
-    match p {
+    test_literals(cs, k)?;
+    match kinds(first, second)? {
         Pieces::ListAndGraph => {
-            let u = test_list(m, cs, qs, counterexample(k), first, shape.marks);
-            let Tested::Fine = u else {
-                return told(u, p);
-            };
-            told(test_graph(m, shape.roles, cs, qs, only(k.c), second), p)
+            test_list(m, cs, qs, counterexample(k), first, shape.marks)?;
+            test_graph(m, shape.roles, cs, qs, only(k.c), second)?;
+            Ok(Judgement::Holds)
         }
-        Pieces::GraphAlone => told(
-            test_graph(m, shape.roles, cs, qs, counterexample(k), first),
-            p,
-        ),
-        Pieces::ListAlone => told(test_list(m, cs, qs, only(k.c), first, shape.marks), p),
-        Pieces::Misfit => told(t, p),
-        Pieces::Off => told(t, p),
+        Pieces::GraphAlone => {
+            test_graph(m, shape.roles, cs, qs, counterexample(k), first)?;
+            Ok(Judgement::Fails)
+        }
+        Pieces::ListAlone => {
+            test_list(m, cs, qs, only(k.c), first, shape.marks)?;
+            Ok(Judgement::HoldsOfNothing)
+        }
     }
 }
 
 // The answer on a claim, for slices of every length and literals of every number.
-pub fn check_claim(description: &[u8], c: u8, d: u8, first: &[u8], second: &[u8]) -> Judgement
+pub fn check_claim(
+    description: &[u8],
+    c: u8,
+    d: u8,
+    first: &[u8],
+    second: &[u8],
+) -> Result<Judgement, Refusal>
     ensures { of_judgement result ≡ claim_answer description.now c d first.now second.now }
 {
-    let o = open_description(description);
-    let tested = o.tested;
-    let m = o.masks;
-    let cs = concepts_part(description);
-    let qs = query_part(description);
+    let o = open_description(description)?;
     let shape = Shape {
         roles: o.count,
         marks: has_four(description),
     };
-    match tested {
-        Tested::Fine => check_opened(&m, shape, cs, qs, Claim { c: c, d: d }, first, second),
-        Tested::Refused(n, r) => Judgement::Refused(n, r),
-    }
+    check_opened(
+        &o.masks,
+        shape,
+        concepts_part(description),
+        query_part(description),
+        Claim { c, d },
+        first,
+        second,
+    )
 }

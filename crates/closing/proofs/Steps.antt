@@ -1,28 +1,18 @@
 -- The bytes behind the passes are those of the closed line.
-use Rattle.std.specs.Prelude.{ℕ, zero, suc, ◌+◌, ◌-◌, ◌*◌, ◌/◌, ◌%◌, ◌≤◌, ◌<◌, ◌≡◌, ◌↔◌, ◌⊎◌, Bool, true, false, ◌&&◌, ◌||◌, List, eqb, leb, length, get_or}
-use Rattle.std.proofs.Math.Path.{refl, sym, ap, ap₂, subst}
-use Rattle.std.proofs.Common.{◌∙◌, inl, mod-eq_of_lt, mul-le-mul, div-add-mod', div-lt_iff_lt-mul, mod-lt, zero-mul, add-one}
+use Rattle.std.specs.Prelude.{ℕ, zero, suc, ◌+◌, ◌-◌, ◌*◌, ◌/◌, ◌%◌, ◌≤◌, ◌<◌, ◌≡◌, ◌&&◌, List, leb, length}
+use Rattle.std.proofs.Math.Path.{refl, sym, ap}
+use Rattle.std.proofs.Common.{◌∙◌, inl}
 use Rattle.std.proofs.Math.Logic.{inr}
-use Rattle.std.proofs.Math.Bool.{cond, or-false}
-use Rattle.std.proofs.lemmas.Bool.{false≢true}
+use Rattle.std.proofs.Math.Bool.{cond}
 use native.Mathlib.Omega.{arith}
 use Rattle.std.proofs.Math.Decide.{dec_lt}
-use Rattle.std.proofs.Math.Nat.{mul-add-div_right, mul-add-mod_self_right, div-eq_of_lt, mul-le-mul_right}
 use borrow.Author.Tests.{lt-leb, le-leb, lt-ltb, le-ltb}
-use Rattle.std.specs.Int.Bits.{bit_and, bit_or}
 use Rattle.std.proofs.Math.Dec.{ltb}
-use Rattle.logic.specs.Tests.{So, so_and, and_l, and_r, or_l, or_r, or_cases, so_false, same_test, so_eqb, eqb_so}
-use Rattle.logic.specs.Bounded.{any_below, any_elim, any_intro}
-use Rattle.logic.specs.Closure.{closure, closure_base}
-use Rattle.logic.specs.Sets.{has, set_of}
-use Rattle.logic.specs.SetLaws.{set_ext, no_member, has_lt, set_of_lt, set_of↔, set_of_has, set_of_cong, or_set_of, or_members, and_members}
-use Rattle.parts.specs.Numbers.{byte_at, num2}
+use Rattle.parts.specs.Numbers.{byte_at}
 use Rattle.lines.specs.Lines.{byte_of}
 use Rattle.lines.specs.Numerals.{Bytes}
 use Rattle.lines.specs.Laying.{Masks}
-use Rattle.lines.proofs.Laying.{put2, laid_none, laid_rest, mask_more, laid_append, laid_as, laid_then, two_local}
-use Rattle.closing.specs.Rows.{RowsLie, over_mask}
-use Rattle.closing.specs.Closing.{mask_at, joined_by, closed_mask, closed_pair, masks_end, closed_byte}
+use Rattle.closing.specs.Closing.{closed_mask, closed_pair, masks_end, closed_byte}
 use Rattle.closing.specs.Steps.{mask_no, stop_mask, raised_to, raised_mask, raised_is}
 
 module _ (m : List ℕ) (at d t : ℕ) (a : List ℕ) where

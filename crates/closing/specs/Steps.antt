@@ -1,5 +1,5 @@
 -- The steps of the closing: what each makes of the masks, and that together they close the roles.
-use Rattle.std.specs.Prelude.{ℕ, zero, suc, ◌+◌, ◌-◌, ◌*◌, ◌/◌, ◌%◌, ◌≤◌, ◌<◌, ◌≡◌, ◌↔◌, ◌⊎◌, Bool, true, false, ◌&&◌, ◌||◌, List, eqb, leb, length, get_or}
+use Rattle.std.specs.Prelude.{ℕ, suc, ◌+◌, ◌*◌, ◌/◌, ◌%◌, ◌≤◌, ◌<◌, ◌≡◌, ◌↔◌, ◌⊎◌, Bool, true, false, ◌&&◌, ◌||◌, List, eqb, get_or}
 use Rattle.std.proofs.Math.Path.{refl, sym, ap, ap₂, subst}
 use Rattle.std.proofs.Common.{◌∙◌, inl, mod-eq_of_lt, mul-le-mul, div-add-mod', div-lt_iff_lt-mul, mod-lt, zero-mul, add-one}
 use Rattle.std.proofs.Math.Logic.{inr}
@@ -8,21 +8,18 @@ use Rattle.std.proofs.lemmas.Bool.{false≢true}
 use native.Mathlib.Omega.{arith}
 use Rattle.std.proofs.Math.Decide.{dec_lt}
 use Rattle.std.proofs.Math.Nat.{mul-add-div_right, mul-add-mod_self_right, div-eq_of_lt, mul-le-mul_right}
-use borrow.Author.Tests.{lt-leb, le-leb, lt-ltb, le-ltb}
 use Rattle.std.specs.Int.Bits.{bit_and, bit_or}
-use Rattle.std.proofs.Math.Dec.{ltb}
 use Rattle.logic.specs.Tests.{So, so_and, and_l, and_r, or_l, or_r, or_cases, so_false, same_test, so_eqb, eqb_so}
 use Rattle.logic.specs.Bounded.{any_below, any_elim, any_intro}
 use Rattle.logic.specs.Closure.{closure, closure_base}
 use Rattle.logic.specs.Sets.{has, set_of}
 use Rattle.logic.specs.SetLaws.{set_ext, no_member, has_lt, set_of_lt, set_of↔, set_of_has, set_of_cong, or_set_of, or_members, and_members}
-use Rattle.parts.specs.Numbers.{byte_at, num2}
-use Rattle.lines.specs.Lines.{byte_of}
+use Rattle.parts.specs.Numbers.{num2}
 use Rattle.lines.specs.Numerals.{Bytes}
 use Rattle.lines.specs.Laying.{Masks}
-use Rattle.lines.proofs.Laying.{put2, laid_none, laid_rest, mask_more, laid_append, laid_as, laid_then, two_local}
+use Rattle.lines.proofs.Laying.{laid_none, laid_rest, laid_more, laid_append, laid_as, laid_then, two_local}
 use Rattle.closing.specs.Rows.{RowsLie, over_mask}
-use Rattle.closing.specs.Closing.{mask_at, joined_by, closed_mask, closed_pair, masks_end, closed_byte}
+use Rattle.closing.specs.Closing.{mask_at, joined_by, closed_mask, masks_end}
 
 -- ---- rows
 -- mask i of the masks at `at`
@@ -223,13 +220,12 @@ raised_more m t u x anc new a p q h e = e ∙ rw (p, add-one u) (choice (has (bi
     order false false b c d = turn b c d
 
 -- one pair more
-pub raise_more : (at d t i p c v : ℕ) (a old mid : List ℕ) → i < d * d → masks_end at d ≤ length old → p ≡ at + 2 * i → c ≡ num2 mid p
-    → v ≡ raised_to c t a 16 → v < 65536 → Masks at (raised_mask old at t a) old i mid
-    → Masks at (raised_mask old at t a) old (i + 1) (put2 mid p (v / 256 % 256) (v % 256))
+pub raise_more : (at t i c v : ℕ) (a old mid new : List ℕ) → c ≡ num2 mid (at + 2 * i) → v ≡ raised_to c t a 16
+    → Masks at (raised_mask old at t a) old i mid → Masks (at + 2 * i) (λ j. v) mid 1 new
+    → Masks at (raised_mask old at t a) old (i + 1) new
 unfolding raised_mask
-raise_more at d t i p c v a old mid h room z e q hv l = let n : v / 256 % 256 * 256 + v % 256 ≡ v = omega arith in
-    rw z (mask_more at i _ _ (raised_mask old at t a) old mid (omega arith)
-    (n ∙ q ∙ ap (λ n. raised_to n t a 16) (e ∙ ap (num2 mid) z ∙ laid_rest 2 num2 two_local l (at + 2 * i) (inr (omega arith)))) l)
+raise_more at t i c v a old mid new e q l b = laid_more 2 num2 two_local at i v (raised_mask old at t a) old mid new l b
+    (q ∙ ap (λ n. raised_to n t a 16) (e ∙ laid_rest 2 num2 two_local l (at + 2 * i) (inr (omega arith))))
 
 -- ---- together they close the roles
 pub raised_is : (m : List ℕ) (at d t : ℕ) (a : List ℕ) (x y : ℕ) → raised_to (stop_at m at d t d x y) t a 16 ≡ closed_mask m at d t a x y

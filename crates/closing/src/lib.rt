@@ -10,8 +10,9 @@ ghost use Rattle.lines.specs.Laying.{Masks};
 ghost use Rattle.closing.specs.Rows.{RowsLie, join_mask, over_mask};
 ghost use Rattle.closing.specs.Steps.{via_mask, stop_mask, raised_to, raised_mask};
 
+use lines::{put_mask, row_at};
 use parts::mask2;
-use roles::has16;
+use words::Bits;
 
 // The `n` masks at `at` take over the roles of `m` from the `n` masks at `from`. They are counted in 32 bits, which one register of a small
 // processor holds.
@@ -19,18 +20,14 @@ fn join_row(buf: &mut [u8], at: usize, from: usize, n: u8, m: u16)
     requires { RowsLie at from n (length buf.old) }
     ensures { Masks at (join_mask buf.old at from m) buf.old n buf.new }
 {
-    let high = (m / 256 % 256) as u8;
-    let low = (m % 256) as u8;
-    let size = n as u32;
-    let mut y: u32 = 0;
-    while y < size {
+    let [high, low] = m.to_be_bytes();
+    for y in 0..n as u32 {
         let i = at + ((2 * y) as usize);
         let j = from + ((2 * y) as usize);
         let first = buf[i] | (buf[j] & high);
         let second = buf[i + 1] | (buf[j + 1] & low);
         buf[i] = first;
         buf[i + 1] = second;
-        y += 1;
     }
 }
 
@@ -46,18 +43,16 @@ fn join(buf: &mut [u8], row: usize, from: usize, n: u8, k: u8, t: u16)
     join_row(buf, row, from, n, m);
 }
 
-// Every row takes over from row `k`: the roles of `t` may stop at `k`.
+// Every row takes over from row `k`: the roles of `t` may stop at `k`. A struct that held the lent buffer would be no plainer than its
+// place and size beside it: each contract would have to say that these two stay.
 fn pass(buf: &mut [u8], at: usize, n: u8, k: u8, t: u16)
     requires { (k < n) × (masks_end at n ≤ length buf.old) }
     ensures { Masks at (via_mask buf.old at n k t) buf.old (n * n) buf.new }
 {
-    let from = at + 2 * ((k as usize) * (n as usize));
-    let mut row = at;
-    let mut x: u8 = 0;
-    while x < n {
+    let from = row_at(at, n, k);
+    for x in 0..n {
+        let row = row_at(at, n, x);
         join(buf, row, from, n, k, t);
-        row += 2 * (n as usize);
-        x += 1;
     }
 }
 
@@ -66,10 +61,8 @@ fn close(buf: &mut [u8], at: usize, n: u8, t: u16)
     requires { masks_end at n ≤ length buf.old }
     ensures { Masks at (stop_mask buf.old at n t n) buf.old (n * n) buf.new }
 {
-    let mut k: u8 = 0;
-    while k < n {
+    for k in 0..n {
         pass(buf, at, n, k, t);
-        k += 1;
     }
 }
 
@@ -77,7 +70,7 @@ fn close(buf: &mut [u8], at: usize, n: u8, t: u16)
 fn with_above(x: u16, above: u16, m: u16, u: u8) -> u16
     ensures { (result ≡ cond (has m u) (bit_or x above) x) × (above < 65536) }
 {
-    if has16(m, u) { x | above } else { x }
+    if m.has(u) { x | above } else { x }
 }
 
 // The mask `m` with the ancestors of the roles of `t` in it.
@@ -89,10 +82,8 @@ fn raised(m: u16, t: u16, a: &[u16; 49]) -> u16
         return m;
     }
     let mut out = m;
-    let mut u: u8 = 0;
-    while u < 16 {
+    for u in 0..16 {
         out = with_above(out, a[u as usize], closed, u);
-        u += 1;
     }
     out
 }
@@ -102,20 +93,16 @@ fn raise(buf: &mut [u8], at: usize, n: u8, t: u16, a: &[u16; 49])
     requires { masks_end at n ≤ length buf.old }
     ensures { Masks at (raised_mask buf.old at t a.now) buf.old (n * n) buf.new }
 {
-    let size = (n as u16) * (n as u16);
     let mut p = at;
-    let mut i: u16 = 0;
-    while i < size {
+    for i in 0..(n as u16) * (n as u16) {
         let m = raised(mask2(buf, p), t, a);
-        buf[p] = (m / 256 % 256) as u8;
-        buf[p + 1] = (m % 256) as u8;
+        put_mask(buf, p, m);
         p += 2;
-        i += 1;
     }
 }
 
-// The transitive roles (mask `t`) of `d` elements closed, and their pairs handed to their ancestors (in front in the masks `a`). The role masks lie from
-// `at` on.
+// The transitive roles (mask `t`) of `d` elements closed, and their pairs handed to their ancestors (in front in the masks `a`). The role
+// masks lie from `at` on.
 pub fn close_roles(buf: &mut [u8], at: usize, d: u8, t: u16, a: &[u16; 49])
     ensures { (length buf.new ≡ length buf.old) × ((p : ℕ) → byte_at buf.new p ≡ closed_byte buf.old at d t a.now p) }
 {

@@ -1,22 +1,19 @@
 -- K and the copies that the code finds are the graph's.
-use Prim.Native.Nat.{ℕ, zero, suc, ◌+◌, ◌-◌, ◌*◌, ◌/◌, ◌≤◌, ◌<◌, max}
+use Prim.Native.Nat.{ℕ, zero, suc, ◌+◌, ◌-◌, ◌/◌, ◌≤◌, ◌<◌, max}
 use Rattle.std.specs.Prelude.{◌≡◌, Bool, List, eqb, ltb, length, drop}
 use Rattle.std.proofs.Math.Path.{refl, ap}
-use Rattle.std.proofs.Common.{sym, ◌∙◌, ap₂, add-zero, add-one, lt-ltb, le-ltb}
+use Rattle.std.proofs.Common.{sym, ◌∙◌, ap₂, add-zero}
 use Rattle.std.proofs.Math.Bool.{true, false, cond}
 use native.Mathlib.Omega.{arith}
-use Rattle.std.proofs.Math.Decide.{dec_lt}
-use Rattle.std.proofs.Math.Nat.{sub-zero}
 use Rattle.logic.specs.Lists.{tabulate, length_tabulate, at_tabulate}
 use Rattle.logic.specs.Sums.{sum_below, only, max_below, sum_front}
 use Rattle.logic.specs.Sets.{has}
 use Rattle.logic.specs.SetLaws.{has_none}
-use Rattle.parts.specs.Numbers.{byte_at, num2, up_to_all}
+use Rattle.parts.specs.Numbers.{up_to_all}
 use Rattle.graph.specs.Graphs.{Edge, Node, edges_at, total}
 use Rattle.graph.specs.Line.{copies, joins}
 use Rattle.evidence.specs.Evidence.{label_size, record_count, record_at, edge_in, edges_in, edges_part, node_in, graph_in, most_edges}
 use Rattle.evidence.specs.declared.Layout.{Layout}
-use Rattle.edges.specs.EdgeSteps.{edge_count}
 use Rattle.copies.specs.Copying.{total_to, copies_in, owner_from, owner_mask}
 
 -- ---- they are the graph's

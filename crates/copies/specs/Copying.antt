@@ -1,20 +1,15 @@
 -- Copies of nodes, read from a graph's bytes (01, "The written line"): how many there are of each, and the edge that takes one.
 use Prim.Native.Nat.{ℕ, zero, suc, ◌+◌, ◌-◌, ◌*◌, ◌/◌, ◌≤◌, ◌<◌, max}
-use Rattle.std.specs.Prelude.{◌≡◌, Bool, List, eqb, ltb, length, drop}
+use Rattle.std.specs.Prelude.{◌≡◌, Bool, List, eqb, ltb, length}
 use Rattle.std.proofs.Math.Path.{refl, ap}
-use Rattle.std.proofs.Common.{sym, ◌∙◌, ap₂, add-zero, add-one, lt-ltb, le-ltb}
+use Rattle.std.proofs.Common.{◌∙◌, add-one, lt-ltb, le-ltb}
 use Rattle.std.proofs.Math.Bool.{true, false, cond}
 use native.Mathlib.Omega.{arith}
 use Rattle.std.proofs.Math.Decide.{dec_lt}
 use Rattle.std.proofs.Math.Nat.{sub-zero}
-use Rattle.logic.specs.Lists.{tabulate, length_tabulate, at_tabulate}
-use Rattle.logic.specs.Sums.{sum_below, only, max_below, sum_front}
-use Rattle.logic.specs.Sets.{has}
-use Rattle.logic.specs.SetLaws.{has_none}
-use Rattle.parts.specs.Numbers.{byte_at, num2, up_to_all}
-use Rattle.graph.specs.Graphs.{Edge, Node, edges_at, total}
-use Rattle.graph.specs.Line.{copies, joins}
-use Rattle.evidence.specs.Evidence.{label_size, record_count, record_at, edge_in, edges_in, edges_part, node_in, graph_in, most_edges}
+use Rattle.logic.specs.Sums.{sum_below, only, max_below}
+use Rattle.parts.specs.Numbers.{byte_at, num2}
+use Rattle.evidence.specs.Evidence.{edge_in, edges_part, most_edges}
 use Rattle.evidence.specs.declared.Layout.{Layout}
 use Rattle.edges.specs.EdgeSteps.{edge_count}
 
@@ -62,10 +57,6 @@ edge_room es k i at h few e = elim (dec_lt (length es / 5) most_edges) [
 ]
 
 module _ (es : List ℕ) (y : ℕ) where
-  -- an edge's count as the code reads it
-  pub count_read : (j at c : ℕ) → at ≡ 5 * j → c ≡ taken_at es y at → c ≡ count_to es y j
-  count_read j at c e p = p ∙ ap (taken_at es y) e
-
   -- from edge i of k: it takes the copy, or c copies are passed, as many as it takes; then none is left
   pub owner_stop : (k i j c m : ℕ) → i < k → c ≡ count_to es y i → m ≡ (edge_in es i).mask → j < c → m ≡ owner_from es y (k - i) i j
   unfolding owner_from
@@ -89,6 +80,11 @@ module _ (es : List ℕ) (y : ℕ) where
   pub owner_end : (k i j : ℕ) → k ≤ i → 0 ≡ owner_from es y (k - i) i j
   unfolding owner_from
   owner_end k i j h = let z : k - i ≡ 0 = omega arith in rw z refl
+
+module _ (es : List ℕ) (y : ℕ) where
+  -- an edge's count as the code reads it
+  pub count_read : (j at c : ℕ) → at ≡ 5 * j → c ≡ taken_at es y at → c ≡ count_to es y j
+  count_read j at c e p = p ∙ ap (taken_at es y) e
 
   pub owner_start : (k j : ℕ) → k ≡ edge_count es → owner_from es y (k - 0) 0 j ≡ owner_mask es y j
   unfolding owner_mask

@@ -1,21 +1,14 @@
 // Copies of nodes: how many there are of each, and the edge that takes one.
 #![tactic(auto)]
 
-ghost use Rattle.std.specs.Prelude.{◌≡◌, ◌*◌, ◌≤◌, ◌<◌, max, length};
-ghost use Rattle.logic.specs.Sums.{only, max_below};
+ghost use Rattle.std.specs.Prelude.{◌≡◌, ◌*◌, ◌≤◌, ◌<◌, length};
+ghost use Rattle.logic.specs.Sums.{max_below};
 ghost use Rattle.edges.specs.EdgeSteps.{edge_count};
 ghost use Rattle.copies.specs.Copying.{taken_at, sum_to, total_to, copies_in, owner_mask};
 
 use edges::edge_count;
 use evidence::{Layout, record_edges};
 use parts::{byte, mask2, read2};
-
-// The greater of two numbers.
-fn greater(a: usize, b: usize) -> usize
-    ensures { result ≡ max a b }
-{
-    if a < b { b } else { a }
-}
 
 // The copies of `y` that the edge at `at` takes: its count, if it leads to `y`. Of all others the target alone is read.
 fn taken_at(es: &[u8], at: u32, y: u8) -> usize
@@ -30,17 +23,6 @@ fn taken_at(es: &[u8], at: u32, y: u8) -> usize
     }
 }
 
-// The greater of `most` and `sum`, if that is asked.
-fn greater_if(most: u32, sum: u32, asked: bool) -> u32
-    ensures { result ≡ max most (only asked sum) }
-{
-    if asked {
-        if most < sum { sum } else { most }
-    } else {
-        most
-    }
-}
-
 // What the counts of the first `k` edges to `y` add up to.
 fn sum_to(es: &[u8], k: u8, y: u8) -> u32
     requires { k ≤ edge_count es.now }
@@ -48,11 +30,10 @@ fn sum_to(es: &[u8], k: u8, y: u8) -> u32
 {
     let mut sum: u32 = 0;
     let mut at: u32 = 0;
-    let mut i: u8 = 0;
-    while i < k {
+    // A place that goes up costs less than five times an index.
+    for i in 0..k {
         sum += taken_at(es, at, y) as u32;
         at += 5;
-        i += 1;
     }
     sum
 }
@@ -61,14 +42,13 @@ fn sum_to(es: &[u8], k: u8, y: u8) -> u32
 fn most_to(es: &[u8], n: u8) -> usize
     ensures { (result ≡ max_below n (total_to es.now)) × (result ≤ 32 * 65535) }
 {
-    let k = edge_count(es);
     let mut most: u32 = 0;
-    let mut j: u8 = 0;
-    while j < k {
+    for j in 0..edge_count(es) {
         let y = byte(es, 5 * (j as usize));
-        j += 1;
-        let sum = sum_to(es, j, y);
-        most = greater_if(most, sum, y < n);
+        if y < n {
+            let sum = sum_to(es, j + 1, y);
+            most = most.max(sum);
+        }
     }
     most as usize
 }
@@ -78,16 +58,14 @@ pub fn most_copies(s: &[u8], n: u8, f: Layout) -> usize
     ensures { (result ≡ copies_in f s.now n) × (result ≤ 32 * 65535) }
 {
     let mut most: usize = 1;
-    let mut x: u8 = 0;
-    while x < n {
+    for x in 0..n {
         let es = record_edges(s, x, f);
-        most = greater(most, most_to(es, n));
-        x += 1;
+        most = most.max(most_to(es, n));
     }
     most
 }
 
-// The mask of the edge that takes copy `j` of `y`, or 0.
+// The mask of the edge that takes copy `j` of `y`; 0, the mask of no role, if none does, as the contract has it.
 pub fn owner_mask(es: &[u8], y: u8, j: usize) -> u16
     ensures { result ≡ owner_mask es.now y j }
 {
@@ -95,6 +73,7 @@ pub fn owner_mask(es: &[u8], y: u8, j: usize) -> u16
     let mut left = j;
     let mut at: u32 = 0;
     let mut i: u8 = 0;
+    // A `for` was tried: a dense line takes five in a hundred more with it.
     while i < k {
         let taken = taken_at(es, at, y);
         if left < taken {

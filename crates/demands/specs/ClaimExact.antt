@@ -1,5 +1,6 @@
 -- Claims on bytes: each answer is told exactly when its evidence keeps the rules, and it is true (02, job 1).
-use Rattle.std.specs.Prelude.{ℕ, ◌<◌, ◌≡◌, ◌↔◌, Bool, true, false, List, [], ◌∷◌, length}
+use Rattle.std.specs.Prelude.{ℕ, ◌<◌, ◌≡◌, ◌↔◌, Bool, true, false, List, [], ◌∷◌, length, Some, None, Result, Ok, Err}
+use Rattle.std.specs.Prelude as Code
 use Rattle.std.proofs.Math.Path.{refl}
 use Rattle.std.proofs.Common.{sym, ◌∙◌, ap, subst, arith}
 use Rattle.std.proofs.Math.Option.{none, some, none-ne-some}
@@ -20,16 +21,19 @@ use Rattle.intake.specs.Intake.{described, AcceptedBytes, accepted_bytes↔}
 use Rattle.demands.specs.Exact.{graph_of, refutation_of}
 use Rattle.evidence.specs.Evidence.{record_count, HeadOk, head↔, head_of, head_graph, head_refutation}
 use Rattle.evidence.specs.declared.Head.{Head}
-use Rattle.evidence.specs.declared.Head as Heads
 use Rattle.evidence.specs.declared.Head.TheVariants.{GraphOf, RefutationOf}
 use Rattle.graph_check.specs.GraphEvidence.{GraphKept, kept↔}
 use Rattle.lists.specs.ListEvidence.{ListKept}
 use Rattle.lists.proofs.ListEvidence.{list_kept↔}
 use Rattle.answers.specs.declared.Judgement.{Judgement}
 use Rattle.answers.specs.declared.Judgement.TheVariants.{Holds, Fails, HoldsOfNothing}
-use Rattle.answers.specs.Answers.{Word, REFUSED, INHABITED, EMPTY, WRITTEN, HOLDS, FAILS, HOLDS_OF_NOTHING, DONE, answer, told↔, of_judgement, judgement↔, case_when}
+use Rattle.answers.specs.declared.Refusal as Refusals
+use Rattle.answers.specs.declared.Reason.TheVariants as Reasons
+use Rattle.answers.specs.Reasons.{number_of, refused}
+use Rattle.answers.proofs.Judgements.{judgement↔}
+use Rattle.answers.specs.Answers.{Word, REFUSED, INHABITED, EMPTY, WRITTEN, HOLDS, FAILS, HOLDS_OF_NOTHING, DONE, answer, told↔, of_judgement, case_when}
 use Rattle.claims.specs.declared.Pieces.{Pieces}
-use Rattle.claims.specs.declared.Pieces.TheVariants.{ListAndGraph, GraphAlone, ListAlone, Misfit, Off}
+use Rattle.claims.specs.declared.Pieces.TheVariants.{ListAndGraph, GraphAlone, ListAlone}
 use Rattle.claims.proofs.ClaimSteps.{second_some}
 use Rattle.claims.specs.Claims.{subject, counterexample, second_of, pieces, pieces_of, kinds_refusal, pieces_tests, shows, claim_refused, claim_answer}
 
@@ -49,54 +53,52 @@ NothingOf D c d s t = ListKept D (subject c) s × (t ≡ [])
 
 -- ---- by the kinds of the pieces
 -- the kinds that show a word
-abbrev kinds_for : Word → Pieces
-kinds_for REFUSED = Off
-kinds_for INHABITED = Off
-kinds_for EMPTY = Off
-kinds_for WRITTEN = Off
-kinds_for HOLDS = ListAndGraph
-kinds_for FAILS = GraphAlone
-kinds_for HOLDS_OF_NOTHING = ListAlone
-kinds_for DONE = Off
+abbrev kinds_for : Word → Result Pieces Refusals.Refusal
+kinds_for REFUSED = Err (refused Reasons.Head 0)
+kinds_for INHABITED = Err (refused Reasons.Head 0)
+kinds_for EMPTY = Err (refused Reasons.Head 0)
+kinds_for WRITTEN = Err (refused Reasons.Head 0)
+kinds_for HOLDS = Ok ListAndGraph
+kinds_for FAILS = Ok GraphAlone
+kinds_for HOLDS_OF_NOTHING = Ok ListAlone
+kinds_for DONE = Err (refused Reasons.Head 0)
 
-fitting : (p : Pieces) → kinds_refusal p ≡ none → p ≡ kinds_for (shows p)
-fitting ListAndGraph e = refl
-fitting GraphAlone e = refl
-fitting ListAlone e = refl
-fitting Misfit e = absurd (none-ne-some 24 (sym e))
-fitting Off e = absurd (none-ne-some 9 (sym e))
+fitting : (p : Result Pieces Refusals.Refusal) → kinds_refusal p ≡ none → p ≡ kinds_for (shows p)
+fitting (Ok ListAndGraph) e = refl
+fitting (Ok GraphAlone) e = refl
+fitting (Ok ListAlone) e = refl
+fitting (Err r) e = absurd (none-ne-some (number_of r.reason) (sym e))
 
 -- REFUSED is no word of theirs
 not_refused : (w : Word) → kinds_refusal (kinds_for w) ≡ none → REFUSED ≡ w → ⊥
 not_refused w k e = none-ne-some 9 (sym k ∙ ap (λ v. kinds_refusal (kinds_for v)) (sym e))
 
 -- no piece but the first
-abbrev single : Pieces → Bool
-single ListAndGraph = false
-single GraphAlone = true
-single ListAlone = true
-single Misfit = false
-single Off = false
+abbrev single : Result Pieces Refusals.Refusal → Bool
+single (Ok ListAndGraph) = false
+single (Ok GraphAlone) = true
+single (Ok ListAlone) = true
+single (Err r) = false
 
-none_second : (h : Head) (t : List ℕ) → single (pieces h (second_of t)) ≡ true → t ≡ []
+none_second : (h : Code.Option Head) (t : List ℕ) → single (pieces h (second_of t)) ≡ true → t ≡ []
 unfolding pieces
 none_second h [] e = refl
 none_second h (b ∷ t) e = absurd (two h (head_of (b ∷ t)) (ap single (second_some h (head_of (b ∷ t)) (b ∷ t) (λ z. omega arith) refl) ∙ e))
   where
-    two : (h k : Head) → single (pieces h (some k)) ≡ true → ⊥
-    two Heads.TheVariants.Off k e = let z : ◌≡◌ {A = ℕ} 0 1 = cc in omega arith
-    two (GraphOf n) Heads.TheVariants.Off e = let z : ◌≡◌ {A = ℕ} 0 1 = cc in omega arith
-    two (GraphOf n) (GraphOf m) e = let z : ◌≡◌ {A = ℕ} 0 1 = cc in omega arith
-    two (GraphOf n) (RefutationOf m) e = let z : ◌≡◌ {A = ℕ} 0 1 = cc in omega arith
-    two (RefutationOf n) Heads.TheVariants.Off e = let z : ◌≡◌ {A = ℕ} 0 1 = cc in omega arith
-    two (RefutationOf n) (GraphOf m) e = let z : ◌≡◌ {A = ℕ} 0 1 = cc in omega arith
-    two (RefutationOf n) (RefutationOf m) e = let z : ◌≡◌ {A = ℕ} 0 1 = cc in omega arith
+    two : (h k : Code.Option Head) → single (pieces h (some k)) ≡ true → ⊥
+    two None k e = let z : ◌≡◌ {A = ℕ} 0 1 = cc in omega arith
+    two (Some (GraphOf n)) None e = let z : ◌≡◌ {A = ℕ} 0 1 = cc in omega arith
+    two (Some (GraphOf n)) (Some (GraphOf m)) e = let z : ◌≡◌ {A = ℕ} 0 1 = cc in omega arith
+    two (Some (GraphOf n)) (Some (RefutationOf m)) e = let z : ◌≡◌ {A = ℕ} 0 1 = cc in omega arith
+    two (Some (RefutationOf n)) None e = let z : ◌≡◌ {A = ℕ} 0 1 = cc in omega arith
+    two (Some (RefutationOf n)) (Some (GraphOf m)) e = let z : ◌≡◌ {A = ℕ} 0 1 = cc in omega arith
+    two (Some (RefutationOf n)) (Some (RefutationOf m)) e = let z : ◌≡◌ {A = ℕ} 0 1 = cc in omega arith
 
 -- a graph, a list, and a second piece that is one
-graph_head_lem : (s : List ℕ) → HeadOk s → byte_at s 0 ≡ 1 → head_of s ≡ GraphOf (record_count s)
+graph_head_lem : (s : List ℕ) → HeadOk s → byte_at s 0 ≡ 1 → head_of s ≡ Some (GraphOf (record_count s))
 graph_head_lem s h k = sym (head_graph s ((head↔ s).1 h) k (record_count s) refl)
 
-list_head_lem : (s : List ℕ) → HeadOk s → byte_at s 0 ≡ 2 → head_of s ≡ RefutationOf (record_count s)
+list_head_lem : (s : List ℕ) → HeadOk s → byte_at s 0 ≡ 2 → head_of s ≡ Some (RefutationOf (record_count s))
 list_head_lem s h k = sym (head_refutation s ((head↔ s).1 h) (λ z. omega (arith, k, z)) (record_count s) refl)
 
 some_bytes : (t : List ℕ) → byte_at t 0 ≡ 1 → length t ≡ 0 → ⊥
@@ -149,15 +151,15 @@ module _ (x : List ℕ) (c d : ℕ) (s t : List ℕ) where
   )
 
   -- so for the case that the code answers
-  module _ (v : Judgement) (q : of_judgement v ≡ claim_answer x c d s t) where
-    pub holds_when : (v ≡ Holds) ↔ (AcceptedBytes x × (ClaimIn (described x) c d × HoldsOf (described x) c d s t))
-    holds_when = case_when (of_judgement v) (claim_answer x c d s t) (answer HOLDS none) q (judgement↔ v Holds) holds↔
+  module _ (v : Result Judgement Refusals.Refusal) (q : of_judgement v ≡ claim_answer x c d s t) where
+    pub holds_when : (v ≡ Ok Holds) ↔ (AcceptedBytes x × (ClaimIn (described x) c d × HoldsOf (described x) c d s t))
+    holds_when = case_when (of_judgement v) (claim_answer x c d s t) (answer HOLDS none) q (judgement↔ v (Ok Holds)) holds↔
 
-    pub fails_when : (v ≡ Fails) ↔ (AcceptedBytes x × (ClaimIn (described x) c d × FailsOf (described x) c d s t))
-    fails_when = case_when (of_judgement v) (claim_answer x c d s t) (answer FAILS none) q (judgement↔ v Fails) fails↔
+    pub fails_when : (v ≡ Ok Fails) ↔ (AcceptedBytes x × (ClaimIn (described x) c d × FailsOf (described x) c d s t))
+    fails_when = case_when (of_judgement v) (claim_answer x c d s t) (answer FAILS none) q (judgement↔ v (Ok Fails)) fails↔
 
-    pub nothing_when : (v ≡ HoldsOfNothing) ↔ (AcceptedBytes x × (ClaimIn (described x) c d × NothingOf (described x) c d s t))
-    nothing_when = case_when (of_judgement v) (claim_answer x c d s t) (answer HOLDS_OF_NOTHING none) q (judgement↔ v HoldsOfNothing) nothing↔
+    pub nothing_when : (v ≡ Ok HoldsOfNothing) ↔ (AcceptedBytes x × (ClaimIn (described x) c d × NothingOf (described x) c d s t))
+    nothing_when = case_when (of_judgement v) (claim_answer x c d s t) (answer HOLDS_OF_NOTHING none) q (judgement↔ v (Ok HoldsOfNothing)) nothing↔
 
   -- ---- and true
   -- after HOLDS no finite model of any size has an element with C and not D, and the line of the graph is one that has C

@@ -1,19 +1,18 @@
 // Runs the rows of each data file: a description in hexadecimal digits on a line, or a remark after '#'. Prints an answer for each.
 #![tactic(auto)]
 
-ghost use Rattle.std.specs.Prelude.{◌≤◌, length, IfOk};
-
-use answers::Tested;
+use answers::Refusal;
+use input::read_full;
+use intake::test_description;
 use std::fs::File;
 use std::io;
-use std::io::Read;
 use std::rt::Files;
-use vector_rows::{decode, is_remark, mark_from};
+use vector_rows::{decode, is_remark, run_parts};
 
-fn print_tested(rt: &impl Print, t: Tested) -> io::Result<()> {
+fn print_tested(rt: &impl Print, t: Result<(), Refusal>) -> io::Result<()> {
     match t {
-        Tested::Fine => println!(rt; "FINE 0 0"),
-        Tested::Refused(number, place) => println!(rt; "REFUSED {number} {place}"),
+        Ok(()) => println!(rt; "FINE 0 0"),
+        Err(r) => println!(rt; "REFUSED {} {}", r.reason.number(), r.place),
     }
 }
 
@@ -23,34 +22,11 @@ fn run_line(rt: &impl Print, line: &[u8]) -> io::Result<()> {
     }
     let mut space = [0; 512];
     let n = decode(line, &mut space);
-    print_tested(rt, intake::test_description(&space[..n]))
+    print_tested(rt, test_description(&space[..n]))
 }
 
-fn run(rt: &impl Print, all: &[u8]) -> io::Result<()> {
-    let mut at = 0;
-    while at < all.len() {
-        let end = mark_from(all, at, b'\n');
-        run_line(rt, &all[at..end])?;
-        at = end + 1;
-    }
-    Ok(())
-}
-
-// Reads until the buffer is full or the input ends, and returns how many bytes it put at the start of the buffer.
-fn read_full(from: &mut impl Read, buf: &mut [u8]) -> io::Result<usize>
-    ensures { IfOk result (λ n. n ≤ length buf.new) }
-{
-    let mut done = 0;
-    while done < buf.len() {
-        let n = from.read(&mut buf[done..])?;
-        if n == 0 {
-            break;
-        }
-        done += n;
-    }
-    Ok(done)
-}
-
+// Reads a file and runs its rows.
+// Each program has its own: a shared one would be public, and no contract can say what a file gives or what is printed.
 fn run_file(rt: &(impl Files + Print + Eprint), name: &str) -> io::Result<()> {
     let mut file = match File::open(rt, name) {
         Ok(file) => file,
@@ -62,19 +38,24 @@ fn run_file(rt: &(impl Files + Print + Eprint), name: &str) -> io::Result<()> {
     if n == space.len() {
         return eprintln!(rt; "{name}: Success");
     }
-    run(rt, &space[..n])
+    run_parts(&space[..n], b'\n', |line| run_line(rt, line))
 }
 
 fn main(rt: HostRuntime) -> io::Result<()> {
-    run_file(&rt, "refused_1")?;
-    run_file(&rt, "refused_2")?;
-    run_file(&rt, "refused_3")?;
-    run_file(&rt, "refused_4")?;
-    run_file(&rt, "refused_5")?;
-    run_file(&rt, "refused_6")?;
-    run_file(&rt, "refused_7")?;
-    run_file(&rt, "refused_8")?;
-    run_file(&rt, "accepted")?;
-    run_file(&rt, "accepted_wide")?;
-    run_file(&rt, "trials")
+    for name in [
+        "refused_1",
+        "refused_2",
+        "refused_3",
+        "refused_4",
+        "refused_5",
+        "refused_6",
+        "refused_7",
+        "refused_8",
+        "accepted",
+        "accepted_wide",
+        "trials",
+    ] {
+        run_file(&rt, name)?;
+    }
+    Ok(())
 }

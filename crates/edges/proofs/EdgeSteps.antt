@@ -1,29 +1,23 @@
 -- The test of an edge as the code makes it is the test of the edge.
 use Prim.Native.Nat.{ℕ, ◌+◌, ◌*◌, ◌/◌, ◌≤◌, ◌<◌}
-use Rattle.std.specs.Prelude.{◌≡◌, refl, Bool, true, false, ◌&&◌, List, eqb, ltb, length, get_or}
-use Rattle.std.proofs.Common.{sym, ◌∙◌, arith}
+use Rattle.std.specs.Prelude.{◌≡◌, ◌&&◌, List, ltb, length, get_or}
+use Rattle.std.proofs.Common.{◌∙◌, arith}
 use Rattle.std.proofs.Math.Path.{ap, ap₂}
-use Rattle.std.proofs.Math.Bool.{and-true, and-false}
 use Rattle.std.proofs.Math.Option.{Option}
-use Rattle.std.specs.Int.Bits.{bit_and}
 use Rattle.std.proofs.Math.Dec.{leb}
-use Rattle.logic.specs.Tests.{So, ◌⇒◌, same_test, so_and, and_l, and_r, so_eqb, imp_in, imp_out}
-use Rattle.logic.specs.Bounded.{all_below, all_cong, all_intro, all_elim, any_intro, any_elim}
+use Rattle.logic.specs.Tests.{So, ◌⇒◌, same_test, imp_in, imp_out}
+use Rattle.logic.specs.Bounded.{all_below, all_cong, all_intro, all_elim}
 use Rattle.logic.specs.Lists.{each, each_tabulate}
-use Rattle.logic.specs.Sums.{only}
 use Rattle.logic.specs.Sets.{has, nonempty, narrow, within}
-use Rattle.logic.specs.SetLaws.{narrow↔, within↔, set_of↔}
-use Rattle.parts.specs.Numbers.{byte_at, num2, up_to, up_to_all}
+use Rattle.logic.specs.SetLaws.{within↔, set_of↔}
+use Rattle.parts.specs.Numbers.{byte_at, num2, up_to_all}
 use Rattle.description.specs.Descriptions.{Description, compatible}
 use Rattle.description.specs.Roles.{ancestor}
 use Rattle.tables.specs.Tables.{describe}
 use Rattle.roles.specs.Ancestors.{AncestorsOf, ancestor_masks}
-use Rattle.roles.specs.Disjoint.{records_by, compatible_by, compatible_all}
-use Rattle.graph.specs.Graphs.{Edge}
+use Rattle.roles.specs.Disjoint.{compatible_by}
 use Rattle.graph.specs.GraphTests.{stored_graph, edge_test}
 use Rattle.evidence.specs.Evidence.{most_edges, edge_in, edges_in}
-use Rattle.edges.specs.declared.Edge as Code
-use Rattle.edges.specs.Unions.{union_below, has_union, has_only}
 use Rattle.edges.specs.EdgeSteps.{edge_struct, edge_code, edges_code}
 
 -- ---- it is the test of the edge

@@ -1,27 +1,19 @@
 -- Rule 13 of a graph's edges as the code tests it, on masks.
-use Prim.Native.Nat.{ℕ, ◌+◌, ◌*◌, ◌/◌, ◌≤◌, ◌<◌}
+use Prim.Native.Nat.{ℕ, ◌+◌, ◌*◌, ◌/◌, ◌≤◌}
 use Rattle.std.specs.Prelude.{◌≡◌, refl, Bool, true, false, ◌&&◌, List, eqb, ltb, length, get_or}
 use Rattle.std.proofs.Common.{sym, ◌∙◌, arith}
-use Rattle.std.proofs.Math.Path.{ap, ap₂}
+use Rattle.std.proofs.Math.Path.{ap}
 use Rattle.std.proofs.Math.Bool.{and-true, and-false}
-use Rattle.std.proofs.Math.Option.{Option}
 use Rattle.std.specs.Int.Bits.{bit_and}
 use Rattle.std.proofs.Math.Dec.{leb}
 use Rattle.logic.specs.Tests.{So, ◌⇒◌, same_test, so_and, and_l, and_r, so_eqb, imp_in, imp_out}
 use Rattle.logic.specs.Bounded.{all_below, all_cong, all_intro, all_elim, any_intro, any_elim}
-use Rattle.logic.specs.Lists.{each, each_tabulate}
 use Rattle.logic.specs.Sums.{only}
 use Rattle.logic.specs.Sets.{has, nonempty, narrow, within}
-use Rattle.logic.specs.SetLaws.{narrow↔, within↔, set_of↔}
-use Rattle.parts.specs.Numbers.{byte_at, num2, up_to, up_to_all}
-use Rattle.description.specs.Descriptions.{Description, compatible}
-use Rattle.description.specs.Roles.{ancestor}
-use Rattle.tables.specs.Tables.{describe}
-use Rattle.roles.specs.Ancestors.{AncestorsOf, ancestor_masks}
+use Rattle.logic.specs.SetLaws.{narrow↔, within↔}
+use Rattle.parts.specs.Numbers.{byte_at, num2, up_to}
 use Rattle.roles.specs.Disjoint.{records_by, compatible_by, compatible_all}
-use Rattle.graph.specs.Graphs.{Edge}
-use Rattle.graph.specs.GraphTests.{stored_graph, edge_test}
-use Rattle.evidence.specs.Evidence.{most_edges, edge_in, edges_in}
+use Rattle.evidence.specs.Evidence.{most_edges}
 use Rattle.edges.specs.declared.Edge as Code
 use Rattle.edges.specs.Unions.{union_below, has_union, has_only}
 
@@ -103,8 +95,3 @@ edge_read a n size E p q h hp hq = rw (hp, hq) (ap (λ b. (ltb E.target size && 
     go : (b : Bool) → narrow E.mask n ≡ b → (b && (within (raised a E.mask) E.mask && leb 1 E.count)) ≡ (b && (all_below n (upward_at a E.mask) && leb 1 E.count))
     go true z = ap (λ b. b && leb 1 E.count) (raised_is a E.mask n h z)
     go false z = refl
-
--- a set within another, as the code tests it
-pub within_read : (x y m : ℕ) → x ≡ y → eqb (bit_and x m) x ≡ within y m
-unfolding within
-within_read x y m e = rw e refl

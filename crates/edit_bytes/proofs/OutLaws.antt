@@ -1,5 +1,5 @@
 -- What the editor writes out is the description that was put in, and is accepted (02, job 4).
-use Rattle.std.specs.Prelude.{ℕ, zero, suc, ◌+◌, ◌-◌, ◌*◌, ◌≤◌, ◌<◌, refl, ◌↔◌, Bool, true, false, ◌&&◌, eqb, leb, get_or, take, drop}
+use Rattle.std.specs.Prelude.{ℕ, zero, suc, ◌+◌, ◌*◌, ◌≤◌, ◌<◌, refl, ◌↔◌, Bool, true, false, ◌&&◌, eqb, leb, get_or, take, drop}
 use Rattle.std.proofs.Math.Path.{◌≡◌, fun_ext}
 use Rattle.std.proofs.Common.{sym, ◌∙◌, ap, ap₂, arith, add-one}
 use mathlib.Core.List.{List, [], ◌∷◌, ◌++◌, map, flatten}

@@ -1,5 +1,5 @@
 -- A concept, put in: its six bytes behind the others, and 4 to 7 of the one new entry.
-use Rattle.std.specs.Prelude.{ℕ, suc, ◌+◌, ◌*◌, ◌%◌, ◌≤◌, ◌<◌, ◌≡◌, refl, Bool, true, false, not, cond, ◌&&◌, List, [], ◌∷◌, ◌++◌, ltb, length, set, take, drop, replicate}
+use Rattle.std.specs.Prelude.{ℕ, suc, ◌+◌, ◌*◌, ◌%◌, ◌≤◌, ◌<◌, ◌≡◌, refl, Bool, true, false, not, cond, ◌&&◌, List, [], ◌∷◌, ◌++◌, ltb, length, set, take, drop, replicate, Result, Ok, Err}
 use Rattle.std.proofs.Common.{sym, ◌∙◌, ap₂, subst, inl, inr, arith, mod-eq_of_lt, lt-ltb, le-ltb}
 use Rattle.std.proofs.Math.Path.{ap}
 use Rattle.std.proofs.Math.Option.{none, some}
@@ -21,8 +21,9 @@ use Rattle.roles.specs.Records.{role_table}
 use Rattle.entry_tests.specs.Everys.{every_at}
 use Rattle.entry_tests.specs.Entries.{simple_at, twin_at}
 use Rattle.intake.specs.Steps.{fields_are}
-use Rattle.answers.specs.declared.Change.{Change}
-use Rattle.answers.specs.declared.Change.TheVariants.{Done, Refused}
+use Rattle.answers.specs.declared.Reason.TheVariants as is
+use Rattle.answers.specs.declared.Refusal.{Refusal}
+use Rattle.answers.specs.Reasons.{refused}
 use Rattle.answers.specs.Answers.{wholly, answer, DONE, of_change}
 use Rattle.editing.specs.Editing.{Draft, is_set, describes, entry_form, concept, put_in, refusal, Made}
 use Rattle.editing.proofs.Kept.{passed, Few, made_few}
@@ -47,17 +48,17 @@ number_small D e (every r l) o = omega arith
 number_small D e (at_least r l n) o = o.1.1
 
 -- 5, 6 and 7 in that order
-last_answers : (a b c : Bool) → of_change (cond a (cond b (cond c Done (Refused 7 0)) (Refused 6 0)) (Refused 5 0))
+last_answers : (a b c : Bool) → of_change (cond a (cond b (cond c (Ok tt) (Err (refused is.MissingEvery 0))) (Err (refused is.Twin 0))) (Err (refused is.Simple 0)))
     ≡ answer DONE (wholly (unless a 5 (unless b 6 (unless c 7 none))))
 last_answers true true true = refl
 last_answers true true false = refl
 last_answers true false c = refl
 last_answers false b c = refl
 
-pub last_told : (cs : List ℕ) (e : ℕ) (t : List Role) (n : ℕ) (r : Change) → r ≡ last_test cs e t n → Told DONE (of_change r)
+pub last_told : (cs : List ℕ) (e : ℕ) (t : List Role) (n : ℕ) (r : Result (Unit {0}) Refusal) → r ≡ last_test cs e t n → Told DONE (of_change r)
 last_told cs e t n r q = rw q (one_of (simple_at cs t e) (all_below e (λ f. not (twin_at cs e f))) (every_at cs t n e))
   where
-    one_of : (a b c : Bool) → Told DONE (of_change (cond a (cond b (cond c Done (Refused 7 0)) (Refused 6 0)) (Refused 5 0)))
+    one_of : (a b c : Bool) → Told DONE (of_change (cond a (cond b (cond c (Ok tt) (Err (refused is.MissingEvery 0))) (Err (refused is.Twin 0))) (Err (refused is.Simple 0))))
     one_of true true true = inl refl
     one_of true true false = inr (7, omega arith, refl)
     one_of true false c = inr (6, omega arith, refl)

@@ -8,11 +8,11 @@ ghost use Rattle.editing.specs.Editing.{inclusion, concept};
 ghost use Rattle.edit_state.specs.Lent.{Edits};
 ghost use Rattle.edit_judge.specs.Judging.{table_with, last_test, Judges};
 
-use answers::Change;
+use answers::{Reason, Refusal};
 use edit_lay::{lay_entry, lay_parent};
 use edit_state::{
-    CONCEPTS_FROM, CONCEPTS_ROOM, ROLES_FROM, ROLES_ROOM, STATE_BYTES, count_at, count_roles,
-    records,
+    CONCEPTS_FROM, CONCEPTS_ROOM, ROLES_FROM, ROLES_ROOM, concepts_of, count_entries, count_roles,
+    enough, records, roles_of,
 };
 use entry_tests::everys::{every_at, everys_ok};
 use entry_tests::{distinct_ok, simple_ok, simples_ok};
@@ -41,91 +41,77 @@ fn are_roles(r: RoleNo, p: RoleNo, n: u8) -> bool
 }
 
 // What refuses an inclusion. All entries are tested with the new records: a role that is neither may be harmed.
-fn judge_inclusion(st: &[u8], r: RoleNo, p: RoleNo) -> Change
+fn judge_inclusion(st: &[u8], r: RoleNo, p: RoleNo) -> Result<(), Refusal>
     ensures { Judges (inclusion r.0 p.0) st.now result }
 {
     let n = count_roles(st);
     if !are_roles(r, p, n) {
-        return Change::Refused(3, 0);
+        return Err(Reason::Role.whole());
     }
-    let table = records_with(span(st, ROLES_FROM, 3 * (n as usize)), r, p);
-    let cs = span(
-        st,
-        CONCEPTS_FROM,
-        6 * (count_at(st, 1, MOST_ENTRIES) as usize),
-    );
-    if !simples_ok(cs, table) {
-        return Change::Refused(5, 0);
+    let table = records_with(roles_of(st), r, p);
+    let cs = concepts_of(st);
+    if !simples_ok(cs, &table) {
+        return Err(Reason::Simple.whole());
     }
-    if !everys_ok(cs, table, n) {
-        return Change::Refused(7, 0);
+    if !everys_ok(cs, &table, n) {
+        return Err(Reason::MissingEvery.whole());
     }
-    Change::Done
+    Ok(())
 }
 
 // Includes role `r` in role `p`.
-pub fn put_inclusion(st: &mut [u8], r: RoleNo, p: RoleNo) -> Change
+pub fn put_inclusion(st: &mut [u8], r: RoleNo, p: RoleNo) -> Result<(), Refusal>
     ensures { Edits (inclusion r.0 p.0) st.old result st.new }
 {
-    if st.len() < STATE_BYTES {
-        return Change::Refused(22, 0);
-    }
-    let judged = judge_inclusion(st, r, p);
-    let Change::Done = judged else {
-        return judged;
-    };
+    enough(st)?;
+    judge_inclusion(st, r, p)?;
     lay_parent(st, ROLES_FROM + 3 * ((r.0 % 16) as usize), p);
-    Change::Done
+    Ok(())
 }
 
 // 5, 6 and 7 of the last of the entries.
-fn judge_last(cs: &[u8], e: EntryNo, table: [Role; 16], n: u8) -> Change
-    ensures { result ≡ last_test cs.now e.0 table (up_to 16 n) }
+fn judge_last(cs: &[u8], e: EntryNo, table: &[Role; 16], n: u8) -> Result<(), Refusal>
+    ensures { result ≡ last_test cs.now e.0 table.now (up_to 16 n) }
 {
     if !simple_ok(cs, e, table) {
-        return Change::Refused(5, 0);
+        return Err(Reason::Simple.whole());
     }
     if !distinct_ok(cs, e) {
-        return Change::Refused(6, 0);
+        return Err(Reason::Twin.whole());
     }
     if !every_at(cs, table, n, e) {
-        return Change::Refused(7, 0);
+        return Err(Reason::MissingEvery.whole());
     }
-    Change::Done
+    Ok(())
 }
 
 // What refuses a concept. The tests read the entries that are there and the new one, and no byte behind it.
-fn judge_concept(st: &[u8], f: Fields) -> Change
+fn judge_concept(st: &[u8], f: Fields) -> Result<(), Refusal>
     ensures { Judges (concept (fields_in f)) st.now result }
 {
-    let e = count_at(st, 1, MOST_ENTRIES);
+    let e = count_entries(st);
     if MOST_ENTRIES <= e {
-        return Change::Refused(25, 0);
+        return Err(Reason::Full.whole());
     }
     let n = count_roles(st);
     if !fields_ok(f, EntryNo(e), n as usize) {
-        return Change::Refused(4, 0);
+        return Err(Reason::Entry.whole());
     }
     let size = 6 * (e as usize);
     let mut concepts = [0; CONCEPTS_ROOM];
-    copy_bytes(&mut concepts, 0, span(st, CONCEPTS_FROM, size));
+    copy_bytes(&mut concepts, 0, concepts_of(st));
     lay_entry(&mut concepts, size, f);
-    judge_last(span(&concepts, 0, size + 6), EntryNo(e), records(st), n)
+    judge_last(span(&concepts, 0, size + 6), EntryNo(e), &records(st), n)
 }
 
 // Adds a concept, as the next entry.
-pub fn put_concept(st: &mut [u8], f: Fields) -> Change
+pub fn put_concept(st: &mut [u8], f: Fields) -> Result<(), Refusal>
     ensures { Edits (concept (fields_in f)) st.old result st.new }
 {
-    if st.len() < STATE_BYTES {
-        return Change::Refused(22, 0);
-    }
-    let judged = judge_concept(st, f);
-    let Change::Done = judged else {
-        return judged;
-    };
-    let e = count_at(st, 1, MOST_ENTRIES);
+    enough(st)?;
+    judge_concept(st, f)?;
+    let e = count_entries(st);
     st[1] = e + 1;
     lay_entry(st, CONCEPTS_FROM + 6 * (e as usize), f);
-    Change::Done
+    Ok(())
 }

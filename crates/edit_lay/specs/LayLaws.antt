@@ -1,20 +1,12 @@
 -- What is laid one behind the other is a whole description.
-use Rattle.std.specs.Prelude.{ℕ, ◌+◌, ◌*◌, ◌%◌, ◌^◌, ◌≤◌, ◌≡◌, refl, length}
+use Rattle.std.specs.Prelude.{ℕ, ◌+◌, ◌≤◌, ◌≡◌, refl, length}
 use Rattle.std.proofs.Common.{sym, ◌∙◌, ap, subst, arith, length-append}
 use mathlib.Core.List.{List, [], ◌∷◌, ◌++◌, flatten, append-nil}
-use Rattle.std.specs.Int.Bits.{bit_or}
-use Rattle.logic.specs.Sets.{with}
-use Rattle.logic.specs.SetLaws.{single_word}
 use Rattle.laying.specs.Numbers.{two}
 use Rattle.laying.specs.Laying.{laid, laid_in, laid_from, laid_fits, laid_pieces, laid_output}
 use Rattle.answers.specs.Answers.{over}
 use Rattle.edit_bytes.specs.Out.{with_pairs}
 use Rattle.edit_lay.specs.Lays.{pair_pieces, pairs_of, size_with}
-
--- the mask with one bit, as the code sets it
-pub parent_mask : (x p : ℕ) → bit_or x (1 * 2 ^ (p % 16) % 65536) ≡ with x (p % 16)
-unfolding with
-parent_mask x p = ap (bit_or x) (single_word 16 (p % 16) (omega arith))
 
 -- the six numbers of the pairs
 pub pairs_laid : (old : List ℕ) (a b c : ℕ) → 12 ≤ length old

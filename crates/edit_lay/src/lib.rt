@@ -10,20 +10,14 @@ ghost use Rattle.edit_lay.specs.Lays.{with_parent, six_bytes};
 use laying::{copy_bytes, has_room};
 use parts::{byte, mask2};
 use tables::{Fields, RoleNo};
+use words::Bits;
 
 // The bytes of a role, at a place. Here and below, what does not fit is left out as a whole.
 pub fn lay_role(buf: &mut [u8], at: usize, transitive: u8, parents: u16)
     ensures { buf.new ≡ laid_in buf.old at (transitive ∷ two parents) }
 {
-    let bytes = [transitive, (parents / 256) as u8, (parents % 256) as u8];
-    copy_bytes(buf, at, &bytes);
-}
-
-// The mask with the bit of `p`.
-fn with_bit(x: u16, p: RoleNo) -> u16
-    ensures { result ≡ with x (p.0 % 16) }
-{
-    x | (1 << (p.0 % 16))
+    let [high, low] = parents.to_be_bytes();
+    copy_bytes(buf, at, &[transitive, high, low]);
 }
 
 // The bit of `p` in the parents of the role at a place.
@@ -34,7 +28,7 @@ pub fn lay_parent(buf: &mut [u8], at: usize, p: RoleNo)
         return;
     }
     let transitive = byte(buf, at);
-    let parents = with_bit(mask2(buf, at + 1), p);
+    let parents = mask2(buf, at + 1).put(p.0 % 16, true);
     lay_role(buf, at, transitive, parents);
 }
 
@@ -42,8 +36,6 @@ pub fn lay_parent(buf: &mut [u8], at: usize, p: RoleNo)
 pub fn lay_entry(buf: &mut [u8], at: usize, f: Fields)
     ensures { buf.new ≡ laid_in buf.old at (six_bytes f) }
 {
-    let high = (f.number / 256 % 256) as u8;
-    let low = (f.number % 256) as u8;
-    let bytes = [f.kind, f.role, f.first, f.second, high, low];
-    copy_bytes(buf, at, &bytes);
+    let [high, low] = ((f.number % 65536) as u16).to_be_bytes();
+    copy_bytes(buf, at, &[f.kind, f.role, f.first, f.second, high, low]);
 }

@@ -1,14 +1,15 @@
 -- The editor's state in bytes, as a caller lends it (02, job 4): four numbers, then the three parts with 0 behind what is there; and what
 -- each operation does to them.
 use Rattle.std.specs.Prelude.{ℕ, ◌+◌, ◌-◌, ◌*◌, ◌≤◌, ◌<◌, ◌≡◌, Bool, true, false, ◌⊎◌, List, [], ◌∷◌, ◌++◌, length, replicate, take, drop}
+use Rattle.std.specs.Prelude.{Result, Ok, Err, IfOk, OnErr}
 use Rattle.std.proofs.Math.Option.{none, some}
 use Rattle.parts.specs.Numbers.{byte_at, up_to}
 use Rattle.roles.specs.declared.Role.{Role}
 use Rattle.roles.specs.Records.{role_table}
-use Rattle.answers.specs.declared.Change.{Change}
-use Rattle.answers.specs.declared.Change.TheVariants.{Done, Refused}
-use Rattle.answers.specs.declared.Output as Outputs
-use Rattle.answers.specs.Answers.{wholly, Word, REFUSED, DONE, WRITTEN, Answer, answer, of_change, of_output, size_of}
+use Rattle.answers.specs.declared.Reason.TheVariants as is
+use Rattle.answers.specs.declared.Refusal.{Refusal}
+use Rattle.answers.specs.Reasons.{refused}
+use Rattle.answers.specs.Answers.{wholly, Word, REFUSED, DONE, WRITTEN, Answer, answer, of_change, of_written, length_of}
 use Rattle.editing.specs.Editing.{Draft, is_set, nothing, Edit, refusal, edited, Made}
 use Rattle.edit_bytes.specs.Out.{roles_out, concepts_out, query_out, out_answer, out_length, out_buffer}
 
@@ -87,31 +88,31 @@ abbrev pub Told : Word → Answer → Type 0
 Told w a = (a ≡ answer w none) ⊎ ((n : ℕ) × (n ≤ 25) × (a ≡ answer REFUSED (wholly (some n))))
 
 -- of every bytes: something is told, a refusal leaves them all, nothing behind the state's changes, and fewer are refused with 22
-pub record Keeps (old : List ℕ) (r : Change) (new : List ℕ) : Type 0 where
+pub record Keeps (old : List ℕ) (r : Result (Unit {0}) Refusal) (new : List ℕ) : Type 0 where
   pub told : Told DONE (of_change r)
-  pub kept : (n m : ℕ) → r ≡ Refused n m → new ≡ old
+  pub kept : OnErr r (new ≡ old)
   pub beyond : drop state_bytes new ≡ drop state_bytes old
-  pub short : length old < state_bytes → r ≡ Refused 22 0
+  pub short : length old < state_bytes → r ≡ Err (refused is.Short 0)
 
 -- the start: nothing is put in
-pub record Starts (old : List ℕ) (r : Change) (new : List ℕ) : Type 0 where
-  pub begun : state_bytes ≤ length old → (r ≡ Done) × (new ≡ draft_bytes nothing ++ drop state_bytes old)
+pub record Starts (old : List ℕ) (r : Result (Unit {0}) Refusal) (new : List ℕ) : Type 0 where
+  pub begun : state_bytes ≤ length old → (r ≡ Ok tt) × (new ≡ draft_bytes nothing ++ drop state_bytes old)
   pub keeps : Keeps old r new
 
 -- an operation: of the bytes of a draft that is made by the operations alone, the answer and the bytes of the draft after it
-pub record Edits (e : Edit) (old : List ℕ) (r : Change) (new : List ℕ) : Type 0 where
+pub record Edits (e : Edit) (old : List ℕ) (r : Result (Unit {0}) Refusal) (new : List ℕ) : Type 0 where
   pub made : (T : Draft) (rest : List ℕ) → Lends old T rest
       → (of_change r ≡ answer DONE (wholly (refusal T e))) × (new ≡ draft_bytes (edited T e) ++ rest)
   pub keeps : Keeps old r new
 
 -- writing out: of such bytes, the answer, how many bytes, and all bytes of the buffer; of every bytes, something is told, a refusal leaves
 -- the buffer, and nothing behind what is written changes, nor anything behind the longest output
-pub record Writes (state old : List ℕ) (r : Outputs.Output) (new : List ℕ) : Type 0 where
+pub record Writes (state old : List ℕ) (r : Result ℕ Refusal) (new : List ℕ) : Type 0 where
   pub made : (T : Draft) (rest : List ℕ) → Lends state T rest
-      → (of_output r ≡ out_answer T (length old)) × (size_of r ≡ out_length T (length old)) × (new ≡ out_buffer T old)
-  pub told : Told WRITTEN (of_output r)
-  pub kept : (n m : ℕ) → r ≡ Outputs.TheVariants.Refused n m → new ≡ old
-  pub size : (n : ℕ) → r ≡ Outputs.TheVariants.Bytes n → n ≡ size_in state
+      → (of_written r ≡ out_answer T (length old)) × (length_of r ≡ out_length T (length old)) × (new ≡ out_buffer T old)
+  pub told : Told WRITTEN (of_written r)
+  pub kept : OnErr r (new ≡ old)
+  pub size : IfOk r (λ n. n ≡ size_in state)
   pub past : drop (size_in state) new ≡ drop (size_in state) old
   pub most : drop out_most new ≡ drop out_most old
-  pub short : length state < state_bytes → r ≡ Outputs.TheVariants.Refused 22 0
+  pub short : length state < state_bytes → r ≡ Err (refused is.Short 0)

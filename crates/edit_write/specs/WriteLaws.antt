@@ -1,14 +1,18 @@
 -- Writing out: what the code lays into the buffer, for every state; and of a state that holds a draft, that it is what was put in.
-use Rattle.std.specs.Prelude.{ℕ, ◌+◌, ◌-◌, ◌*◌, ◌≤◌, ◌<◌, ◌≡◌, Bool, true, false, ◌&&◌, eqb, leb, length, take, drop}
+use Rattle.std.specs.Prelude.{ℕ, ◌+◌, ◌-◌, ◌*◌, ◌≤◌, ◌<◌, ◌≡◌, Bool, true, false, ◌&&◌, eqb, leb, length, take, drop, Result, Ok, Err}
 use Rattle.std.proofs.Math.Path.{refl, ap}
 use Rattle.std.proofs.Common.{sym, ◌∙◌, inl, inr, arith, length-drop, drop-drop, length-take-le}
 use mathlib.Core.List.{List}
 use Rattle.std.proofs.Math.Option.{none, some}
 use borrow.Author.Tests.{lt-leb, le-leb}
 use Rattle.std.proofs.Math.Seq.{drop-append-add}
-use Rattle.parts.specs.Numbers.{byte_at}
-use Rattle.answers.specs.declared.Output.TheVariants.{Bytes, Refused}
-use Rattle.answers.specs.Answers.{wholly, answer, WRITTEN, of_output, size_of, unless_refused, over, buffered}
+use Rattle.std.proofs.Math.Decide.{dec_lt}
+use Rattle.parts.specs.Numbers.{byte_at, up_to_all, up_to_most}
+use Rattle.answers.specs.declared.Reason.{Reason}
+use Rattle.answers.specs.declared.Reason.TheVariants as is
+use Rattle.answers.specs.declared.Refusal.{Refusal}
+use Rattle.answers.specs.Reasons.{number_of, refused}
+use Rattle.answers.specs.Answers.{wholly, answer, WRITTEN, unless_refused, over, buffered}
 use Rattle.editing.specs.Editing.{Draft}
 use Rattle.edit_bytes.specs.Out.{with_pairs, out_bytes, whole, out_refused}
 use Rattle.edit_lay.specs.Lays.{size_with}
@@ -17,6 +21,13 @@ use Rattle.edit_state.specs.Lent.{roles_from, concepts_from, query_from, state_b
 use Rattle.edit_state.specs.Lent.{size_in, Writes}
 use Rattle.edit_state.specs.PlaceLaws.{enough, roles_count, entries_count, rules_count, root_flag, roles_read, concepts_read}
 use Rattle.edit_state.specs.PlaceLaws.{query_read}
+
+-- the rules of every state
+pub rules_few : (state : List ℕ) → rules_in state ≤ 16
+rules_few state = elim (dec_lt (byte_at state 3) 16) [
+  | yes l ↦ omega (arith, up_to_all 16 (byte_at state 3) (let z : byte_at state 3 ≤ 16 = omega arith in z))
+  | no l ↦ omega (arith, up_to_most 16 (byte_at state 3) (let z : 16 ≤ byte_at state 3 = omega arith in z))
+]
 
 -- the parts of every state
 pub size_is : (state rs cs qs : List ℕ) (n e k : ℕ) → state_bytes ≤ length state → (n ≡ roles_in state) × (n ≤ 16)
@@ -39,35 +50,33 @@ size_is state rs cs qs n e k h en ee ek er ec eq = rw (← en.0, ← ee.0, ← e
       spanned (1 + k) query_from qs eq (omega (arith, ek)),
     )
 
-not_written : (m n : ℕ) → Refused m 0 ≡ Bytes n → ⊥
-not_written m n e = let y = ap (λ o. (of_output o).word) e in let x : ◌≡◌ {A = ℕ} 0 1 = cc in omega arith
-
-pub short_writes : (state old : List ℕ) → length state < state_bytes → Writes state old (Refused 22 0) old
-short_writes state old h = record {
+pub short_writes : (state old : List ℕ) (r : Result ℕ Refusal) → r ≡ Err (refused is.Short 0) → length state < state_bytes
+    → Writes state old r old
+short_writes state old r q h = rw q (record {
   made = λ T rest l. absurd (omega (arith, enough state T rest l));
   told = inr (22, omega arith, refl);
-  kept = λ _ _ _. refl;
-  size = λ n e. absurd (not_written 22 n e);
+  kept = refl;
+  size = tt;
   past = refl;
   most = refl;
   short = λ _. refl;
-}
+})
 
-pub refused_writes : (state old : List ℕ) (n : ℕ) → n ≤ 25 → state_bytes ≤ length state
-    → ((T : Draft) (rest : List ℕ) → Lends state T rest → out_refused T (length old) ≡ some n) → Writes state old (Refused n 0) old
-refused_writes state old n u h f = record {
+pub refused_writes : (state old : List ℕ) (x : Reason) (r : Refusal) → r ≡ refused x 0 → number_of x ≤ 25 → state_bytes ≤ length state
+    → ((T : Draft) (rest : List ℕ) → Lends state T rest → out_refused T (length old) ≡ some (number_of x)) → Writes state old (Err r) old
+refused_writes state old x r z u h f = rw z (record {
   made = λ T rest l. let q = f T rest l in (
     sym (ap (λ o. answer WRITTEN (wholly o)) q),
     sym (ap (λ o. unless_refused 0 (length (out_bytes T)) (wholly o)) q),
     sym (ap (λ o. buffered (out_bytes T) old (wholly o)) q),
   );
-  told = inr (n, u, refl);
-  kept = λ _ _ _. refl;
-  size = λ m e. absurd (not_written n m e);
+  told = inr (number_of x, u, refl);
+  kept = refl;
+  size = tt;
   past = refl;
   most = refl;
   short = λ k. absurd (omega arith);
-}
+})
 
 -- bytes past what is written stay
 past_stays : (rs cs qs old : List ℕ) (m : ℕ) → size_with rs cs qs ≤ m → drop m (over (with_pairs rs cs qs) old) ≡ drop m old
@@ -88,7 +97,7 @@ pub done_writes : (state old rs cs qs : List ℕ) → state_bytes ≤ length sta
     → (size_with rs cs qs ≡ size_in state) × (size_in state ≤ out_most)
     → ((T : Draft) (rest : List ℕ) → Lends state T rest → (out_refused T (length old) ≡ none) × (size_with rs cs qs ≡ length (out_bytes T))
     × (over (with_pairs rs cs qs) old ≡ over (out_bytes T) old))
-    → Writes state old (Bytes (size_with rs cs qs)) (over (with_pairs rs cs qs) old)
+    → Writes state old (Ok (size_with rs cs qs)) (over (with_pairs rs cs qs) old)
 done_writes state old rs cs qs h k f = record {
   made = λ T rest l. let q = f T rest l in (
     sym (ap (λ o. answer WRITTEN (wholly o)) q.0),
@@ -96,8 +105,8 @@ done_writes state old rs cs qs h k f = record {
     q.2 ∙ sym (ap (λ o. buffered (out_bytes T) old (wholly o)) q.0),
   );
   told = inl refl;
-  kept = λ a b e. absurd (let y = ap (λ o. (of_output o).word) e in let x : ◌≡◌ {A = ℕ} 0 1 = cc in omega arith);
-  size = λ m e. sym (ap size_of e) ∙ k.0;
+  kept = tt;
+  size = k.0;
   past = past_stays rs cs qs old (size_in state) (omega (arith, k));
   most = past_stays rs cs qs old out_most (omega (arith, k));
   short = λ m. absurd (omega arith);

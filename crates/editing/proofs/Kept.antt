@@ -1,5 +1,5 @@
 -- Drafts that are made by the operations break none of 3 to 8 and keep within the limits (02, job 4).
-use Rattle.std.specs.Prelude.{ℕ, suc, ◌≤◌, ◌<◌, ◌≡◌, refl, ◌↔◌, Bool, ◌&&◌, [], length}
+use Rattle.std.specs.Prelude.{ℕ, suc, ◌≤◌, ◌<◌, ◌≡◌, refl, ◌↔◌, Bool, ◌&&◌, length}
 use Rattle.std.proofs.Common.{sym, ◌∙◌, ap, subst, arith, length-set}
 use Rattle.std.proofs.Math.Option.{Option, none, some}
 use Rattle.logic.specs.Tests.{So, ◌⇒◌, and_r, so_ltb}

@@ -1,18 +1,12 @@
 // One item of a script, played on a state.
-use super::tally::{Answer, digits_of, of_change, of_output};
-use answers::{Change, Output};
-use editor::{
-    Edited, Editor, add_concept, add_inclusion, add_role, add_rule, set_root, start, write_out,
-};
+use super::tally::{Answer, Fault, digits_of};
+use editor::{Editor, add_concept, add_inclusion, add_role, add_rule, set_root, start, write_out};
 use parts::{byte, span};
 use tables::{Fields, RoleNo};
 use vector_rows::{bytes_are, field, number, small_number};
 
 // Each byte of a buffer before the editor writes.
 const UNWRITTEN: u8 = 165;
-
-// No refusal's number: the item cannot be played.
-const UNKNOWN: u8 = 255;
 
 // The state after an item, and what it answered.
 #[derive(Drop)]
@@ -46,38 +40,34 @@ fn fields_of(item: &[u8]) -> Fields {
     }
 }
 
-// An operation.
-fn edit(s: Editor, item: &[u8]) -> Edited {
-    match byte(item, 0) {
-        b'S' => Edited {
-            answer: Change::Done,
-            state: start(),
-        },
+// An operation, and the state after it.
+fn edit(s: Editor, item: &[u8]) -> Result<Editor, Fault> {
+    let next = match byte(item, 0) {
+        b'S' => Ok(start()),
         b'R' => add_role(s, byte_operand(item, 0)),
         b'I' => add_inclusion(s, role_operand(item, 0), role_operand(item, 1)),
         b'C' => add_concept(s, fields_of(item)),
         b'Q' => set_root(s, byte_operand(item, 0)),
         b'U' => add_rule(s, byte_operand(item, 0)),
-        _ => Edited {
-            answer: Change::Refused(UNKNOWN, 0),
-            state: s,
-        },
-    }
+        _ => return Err(Fault::Unplayable),
+    };
+    Ok(next?)
 }
 
 // Writes into the first `size` bytes.
-fn write_into(s: Editor, buf: &mut [u8], size: usize) -> Output {
+fn write_into(s: Editor, buf: &mut [u8], size: usize) -> Result<usize, Fault> {
     if buf.len() < size {
-        return Output::Refused(UNKNOWN, 0);
+        return Err(Fault::Unplayable);
     }
-    write_out(s, &mut buf[..size])
+    Ok(write_out(s, &mut buf[..size])?)
 }
 
 // Writes, and looks whether every byte of the buffer is the row's, or stood there before.
 fn write(s: Editor, size: usize, want: &[u8]) -> Answer {
     let mut buf = [UNWRITTEN; 8192];
-    let got = write_into(s, &mut buf, size);
-    of_output(got, bytes_are(&buf, digits_of(want), UNWRITTEN))
+    let written = write_into(s, &mut buf, size);
+    let clean = bytes_are(&buf, digits_of(want), UNWRITTEN);
+    Answer { written, clean }
 }
 
 // Plays an item, of which the row says `want`.
@@ -88,11 +78,14 @@ pub(crate) fn play_item(s: Editor, item: &[u8], want: &[u8]) -> Played {
             answer: write(s, number(operand(item, 0)), want),
         };
     }
-    let edited = edit(s, item);
-    let next = edited.state;
-    let change = edited.answer;
-    Played {
-        state: next,
-        answer: of_change(change),
+    match edit(s, item) {
+        Ok(state) => Played {
+            state,
+            answer: Ok(0).into(),
+        },
+        Err(f) => Played {
+            state: s,
+            answer: Err(f).into(),
+        },
     }
 }

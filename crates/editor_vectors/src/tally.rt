@@ -1,38 +1,99 @@
 // Answers, how they are printed, and how often each was right.
-use answers::{Change, Output};
-use std::io;
-use std::io::Write;
-use vector_rows::{field, number};
+use answers::Refusal;
+use std::fmt::Display;
+use std::{fmt, io};
+use vector_rows::{count, field, number};
 
-// An answer: 0 or a refusal's number and record, how many bytes were written, and whether the buffer is right.
+// Why an item did nothing: the editor refused it, or it cannot be played.
+#[derive(Clone, Copy)]
+pub(crate) enum Fault {
+    Refused(Refusal),
+    Unplayable,
+}
+
+impl From<Refusal> for Fault {
+    fn from(r: Refusal) -> Fault {
+        Fault::Refused(r)
+    }
+}
+
+impl Fault {
+    // The number by which a row names it: a refusal's, or one that no refusal has.
+    fn number(self) -> u8 {
+        match self {
+            Fault::Refused(r) => r.reason.number(),
+            Fault::Unplayable => 255,
+        }
+    }
+
+    fn place(self) -> u8 {
+        match self {
+            Fault::Refused(r) => r.place,
+            Fault::Unplayable => 0,
+        }
+    }
+}
+
+// An answer: how many bytes were written, or why none, and whether the buffer is right.
 #[derive(Clone, Copy)]
 pub(crate) struct Answer {
-    pub(crate) number: u8,
-    pub(crate) place: u8,
-    pub(crate) size: usize,
+    pub(crate) written: Result<usize, Fault>,
     pub(crate) clean: bool,
 }
 
-fn told(number: u8, place: u8, size: usize, clean: bool) -> Answer {
-    Answer {
-        number: number,
-        place: place,
-        size: size,
-        clean: clean,
+// The answer where no buffer was lent.
+impl From<Result<usize, Fault>> for Answer {
+    fn from(written: Result<usize, Fault>) -> Answer {
+        Answer {
+            written,
+            clean: true,
+        }
     }
 }
 
-pub(crate) fn of_change(c: Change) -> Answer {
-    match c {
-        Change::Done => told(0, 0, 0, true),
-        Change::Refused(number, place) => told(number, place, 0, true),
+impl Answer {
+    // What a row says of it first: 0, or the number of a fault.
+    fn number(self) -> u8 {
+        match self.written {
+            Ok(_) => 0,
+            Err(f) => f.number(),
+        }
+    }
+
+    fn place(self) -> u8 {
+        match self.written {
+            Ok(_) => 0,
+            Err(f) => f.place(),
+        }
+    }
+
+    fn size(self) -> usize {
+        self.written.unwrap_or(0)
+    }
+
+    // Whether a row expects the answer. Every refusal has record 0; where the row says nothing, nothing agrees.
+    pub(crate) fn agrees(self, want: &[u8]) -> bool {
+        let said = field(want, 0, b':');
+        let digits = digits_of(want).len();
+        let number = said.len() != 0 && number(said) == usize::from(self.number());
+        let size = digits / 2 == self.size() && digits % 2 == 0;
+        number && size && self.place() == 0 && self.clean
     }
 }
 
-pub(crate) fn of_output(o: Output, clean: bool) -> Answer {
-    match o {
-        Output::Bytes(n) => told(0, 0, n, clean),
-        Output::Refused(number, place) => told(number, place, 0, clean),
+impl Display for Answer {
+    fn fmt<W: fmt::Write>(&self, f: &mut fmt::Formatter<W>) -> fmt::Result {
+        write!(
+            f,
+            "answered {} {}, wrote {} bytes",
+            self.number(),
+            self.place(),
+            self.size()
+        )?;
+        if self.clean {
+            return Ok(());
+        }
+        f.write_str(", the buffer is another")
     }
 }
 
@@ -41,90 +102,46 @@ pub(crate) fn digits_of(want: &[u8]) -> &[u8] {
     field(want, 1, b':')
 }
 
-// Whether a row expects the answer. Every refusal has record 0; where the row says nothing, nothing agrees.
-pub(crate) fn agrees(a: Answer, want: &[u8]) -> bool {
-    let said = field(want, 0, b':');
-    let number = (said.len() != 0) & (number(said) == (a.number as usize));
-    let size = (digits_of(want).len() / 2 == a.size) & (digits_of(want).len() % 2 == 0);
-    (number & (a.place == 0)) & (size & a.clean)
+// How often each answer was right: done, written, and each refusal by its number.
+// Each program has its own: a shared one would be public, and no contract can say what is printed.
+#[derive(Drop)]
+pub(crate) struct Tally {
+    done: [u64; 2],
+    refusals: [u64; 32],
 }
 
-// Where an answer is counted: 0 if done, 1 if bytes were written, or by its number if it is a refusal.
-pub(crate) fn slot(a: Answer) -> usize {
-    if a.number == 0 {
-        if a.size == 0 { 0 } else { 1 }
-    } else {
-        32 + ((a.number % 32) as usize)
-    }
-}
-
-// Writes bytes as they are.
-fn put(rt: &impl Print, text: &[u8]) -> io::Result<()> {
-    io::writer(rt).write_all(text)
-}
-
-fn print_number(rt: &impl Print, before: &str, n: u64, behind: &str) -> io::Result<()> {
-    print!(rt; "{before}{n}{behind}")
-}
-
-// What differs in a row.
-pub(crate) fn print_differs(rt: &impl Print, row: u64, what: &[u8], text: &[u8]) -> io::Result<()> {
-    print_number(rt, "row ", row, ": ")?;
-    put(rt, what)?;
-    put(rt, text)?;
-    print!(rt; "\n")
-}
-
-// An item that answered otherwise than the row says.
-pub(crate) fn print_other(
-    rt: &impl Print,
-    row: u64,
-    got: Answer,
-    item: &[u8],
-    want: &[u8],
-) -> io::Result<()> {
-    print_differs(rt, row, b"another answer to ", item)?;
-    print_number(rt, "  answered ", got.number as u64, "")?;
-    print_number(rt, " ", got.place as u64, "")?;
-    print_number(rt, ", wrote ", got.size as u64, " bytes")?;
-    if !got.clean {
-        print!(rt; ", the buffer is another")?;
-    }
-    print!(rt; "; the row says ")?;
-    put(rt, want)?;
-    print!(rt; "\n")
-}
-
-fn print_count(rt: &impl Print, k: usize, n: u64) -> io::Result<()> {
-    if n == 0 {
-        return Ok(());
-    }
-    match k {
-        0 => print_number(rt, "DONE: ", n, "\n"),
-        1 => print_number(rt, "WRITTEN: ", n, "\n"),
-        _ => {
-            print_number(rt, "REFUSED ", (k % 32) as u64, ": ")?;
-            print_number(rt, "", n, "\n")
+impl Tally {
+    pub(crate) fn new() -> Tally {
+        Tally {
+            done: [0; 2],
+            refusals: [0; 32],
         }
     }
-}
 
-// How often each answer came, those of no row left out.
-pub(crate) fn print_counts(rt: &impl Print, counts: &[u64]) -> io::Result<()> {
-    let mut k = 0;
-    while k < counts.len() {
-        print_count(rt, k, counts[k])?;
-        k += 1;
+    pub(crate) fn add(&mut self, a: Answer) {
+        match a.written {
+            Ok(size) => count(&mut self.done, usize::from(size != 0)),
+            Err(f) => count(&mut self.refusals, usize::from(f.number() % 32)),
+        }
     }
-    Ok(())
-}
 
-// How many rows there are, and whether all agree.
-pub(crate) fn print_total(rt: &impl Print, rows: u64, agree: bool) -> io::Result<()> {
-    println!(rt; "rows: {rows}")?;
-    if agree {
-        println!(rt; "all agree")
-    } else {
-        println!(rt; "not all agree")
+    fn print_done(&self, rt: &impl Print) -> io::Result<()> {
+        for (word, n) in ["DONE", "WRITTEN"].iter().zip(&self.done) {
+            if *n != 0 {
+                println!(rt; "{word}: {n}")?;
+            }
+        }
+        Ok(())
+    }
+
+    // How often each answer came, those of no row left out.
+    pub(crate) fn print(&self, rt: &impl Print) -> io::Result<()> {
+        self.print_done(rt)?;
+        for (number, n) in self.refusals.iter().enumerate() {
+            if *n != 0 {
+                println!(rt; "REFUSED {number}: {n}")?;
+            }
+        }
+        Ok(())
     }
 }

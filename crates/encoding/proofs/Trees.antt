@@ -1,6 +1,7 @@
 -- The bytes of a tree: that they are read back, and that they are written again as they were read.
 use Prim.Native.Nat.{ℕ, zero, suc, ◌+◌, ◌≤◌, ◌<◌}
-use Rattle.std.specs.Prelude.{◌≡◌, ◌⊎◌, Bool, cond, ◌&&◌, ltb, get_or}
+use Rattle.std.specs.Prelude as Rust
+use Rattle.std.specs.Prelude.{Some, None, ◌≡◌, ◌⊎◌, Bool, cond, ◌&&◌, ltb, get_or}
 use Rattle.std.proofs.Math.Path.{refl, ap, subst}
 use Rattle.std.proofs.Common.{sym, ◌∙◌}
 use Rattle.std.proofs.Math.Logic.{inl, inr}
@@ -16,7 +17,7 @@ use Rattle.logic.specs.Lists.{length_tabulate, at_tabulate, tabulate_cong}
 use Rattle.parts.specs.Numbers.{byte_at, num2}
 use Rattle.counting.specs.Trees.{Tree, leaf, split, formed, depth}
 use Rattle.list_form.specs.declared.Node.{Node}
-use Rattle.list_form.specs.declared.Node.TheVariants.{Leaf, Split, Off}
+use Rattle.list_form.specs.declared.Node.TheVariants.{Leaf, Split}
 use Rattle.list_form.specs.ListForm.{Placed, and_then, given, bytes_at, node_in, by_node, leaf_in, tree_in}
 use Rattle.laying.specs.Places.{Stands, first, second, byte, stands_append, stands_more, read_off, map_tabulate, Small, small_more, small_append, small_at, small_in}
 use Rattle.laying.specs.Numbers.{two}
@@ -90,25 +91,25 @@ pub given_there : {A : Type 0} (b : Bool) (x y : A) → given b x ≡ some y →
 given_there true x y e = (refl, some-injective x y e)
 given_there false x y e = absurd (none-ne-some y e)
 
-by_node_lem : {A : Type 0} (f : ℕ → Option A) (g : Option A) (x : Node) (y : A) → by_node f g x ≡ some y
-    → ((end : ℕ) × (x ≡ Leaf end) × (f end ≡ some y)) ⊎ ((x ≡ Split) × (g ≡ some y))
-by_node_lem f g (Leaf end) y e = inl (end, refl, e)
-by_node_lem f g Split y e = inr (refl, e)
-by_node_lem f g Off y e = absurd (none-ne-some y e)
+by_node_lem : {A : Type 0} (f : ℕ → Option A) (g : Option A) (x : Rust.Option Node) (y : A) → by_node f g x ≡ some y
+    → ((end : ℕ) × (x ≡ Some (Leaf end)) × (f end ≡ some y)) ⊎ ((x ≡ Some Split) × (g ≡ some y))
+by_node_lem f g (Some (Leaf end)) y e = inl (end, refl, e)
+by_node_lem f g (Some Split) y e = inr (refl, e)
+by_node_lem f g None y e = absurd (none-ne-some y e)
 
 module _ {s : List ℕ} (b : Small s) where
   -- what stands where a node was read
-  abbrev NodeThere : ℕ → ℕ → Node → Type 0
-  NodeThere limits at (Leaf end) = (byte_at s at ≡ 0) × (end ≡ at + 1 + limits) × (end ≤ length s)
-  NodeThere limits at Split = (byte_at s at ≡ 1) × (at + 4 ≤ length s)
-  NodeThere limits at Off = Unit {0}
+  abbrev NodeThere : ℕ → ℕ → Rust.Option Node → Type 0
+  NodeThere limits at (Some (Leaf end)) = (byte_at s at ≡ 0) × (end ≡ at + 1 + limits) × (end ≤ length s)
+  NodeThere limits at (Some Split) = (byte_at s at ≡ 1) × (at + 4 ≤ length s)
+  NodeThere limits at None = Unit {0}
 
   node_there : (limits at : ℕ) → NodeThere limits at (node_in s limits at)
   unfolding node_in
   node_there limits at = go (ltb at (length s) && eqb (byte_at s at) 0) (leb (at + 1 + limits) (length s)) (leb (at + 4) (length s) && eqb (byte_at s at) 1) refl refl refl
     where
       go : (x y z : Bool) → (ltb at (length s) && eqb (byte_at s at) 0) ≡ x → leb (at + 1 + limits) (length s) ≡ y → (leb (at + 4) (length s) && eqb (byte_at s at) 1) ≡ z
-          → NodeThere limits at (cond x (cond y (Leaf (at + 1 + limits)) Off) (cond z Split Off))
+          → NodeThere limits at (cond x (cond y (Some (Leaf (at + 1 + limits))) None) (cond z (Some Split) None))
       go true true z p q r = (so_eqb (byte_at s at) 0 (and_r (ltb at (length s)) _ p), refl, so_leb _ _ q)
       go true false z p q r = tt
       go false y true p q r = (so_eqb (byte_at s at) 1 (and_r (leb (at + 4) (length s)) _ r), so_leb _ _ (and_l _ _ r))
@@ -119,7 +120,7 @@ module _ {s : List ℕ} (b : Small s) where
     pub ends : t.end ≡ at + length (encode_tree t.tree)
     pub width : TreeWidth t.tree
 
-  leaf_again : (limits at end : ℕ) (t : Placed) → NodeThere limits at (Leaf end) → leaf_in s limits at end ≡ some t → Again at t
+  leaf_again : (limits at end : ℕ) (t : Placed) → NodeThere limits at (Some (Leaf end)) → leaf_in s limits at end ≡ some t → Again at t
   unfolding encode_tree
   leaf_again limits at end t h e = subst (Again at) (some-injective _ _ e) (record {
     there = stands_more 0 ms h.0 here;
@@ -133,7 +134,7 @@ module _ {s : List ℕ} (b : Small s) where
       here : Stands s (at + 1) ms
       here = bytes_here limits (omega (arith, h.1, h.2))
 
-  split_again : (limits at : ℕ) (l r : Placed) → NodeThere limits at Split → Again (at + 4) l → Again l.end r
+  split_again : (limits at : ℕ) (l r : Placed) → NodeThere limits at (Some Split) → Again (at + 4) l → Again l.end r
       → Again at (record { tree = split (byte_at s (at + 1)) (num2 s (at + 2)) l.tree r.tree; end = r.end })
   unfolding encode_tree
   split_again limits at l r h p q =

@@ -1,18 +1,17 @@
 -- Test 7 as the code makes it: for each literal the roles that there is an "every" of, and for each "every R l" the transitive roles
 -- that are included in R.
-use Prim.Native.Nat.{ℕ, zero, suc, ◌+◌, ◌*◌, ◌/◌, ◌%◌, ◌^◌, ◌≤◌, ◌<◌}
+use Prim.Native.Nat.{ℕ, zero, suc, ◌+◌, ◌/◌, ◌%◌, ◌≤◌, ◌<◌}
 use Rattle.std.proofs.Math.Path.{◌≡◌, refl, sym, ap}
-use Rattle.std.proofs.Common.{◌∙◌, ap₂, inl, inr, arith, mod-eq_of_lt, add-one, lt-ltb, ne_eqb, length-set, get_or-set_same, get_or-set_other}
+use Rattle.std.proofs.Common.{◌∙◌, ap₂, inl, inr, arith, mod-eq_of_lt, add-one, ne_eqb, length-set, get_or-set_same, get_or-set_other}
 use Rattle.std.specs.Prelude.{Bool, true, false, ◌&&◌, ◌||◌, List, ◌⊎◌, ltb, length, get_or, set}
 use Rattle.std.proofs.lemmas.Bool.{false≢true}
 use Rattle.std.proofs.Math.Option.{Option}
-use Rattle.std.specs.Int.Bits.{bit_or}
 use Rattle.std.proofs.Math.Dec.{eqb}
 use Rattle.logic.specs.Tests.{So, ◌⇒◌, so_and, and_l, and_r, or_l, or_r, or_cases, so_ltb, ltb_so, imp_in, imp_out}
 use Rattle.logic.specs.Tests.{same_test, decide, so_eqb, eqb↔, reading}
 use Rattle.logic.specs.Bounded.{all_below, any_below, all_intro, all_elim, all_cong, any_intro}
-use Rattle.logic.specs.Sets.{has, within, with, set_of}
-use Rattle.logic.specs.SetLaws.{has_set_of, set_of↔, set_ext, within↔, with↔, no_member, single_word}
+use Rattle.logic.specs.Sets.{has, within, set_of}
+use Rattle.logic.specs.SetLaws.{has_set_of, set_of↔, set_ext, within↔, with↔, no_member}
 use Rattle.words.specs.Words.{put_in}
 use Rattle.parts.specs.Numbers.{up_to, up_to_all}
 use Rattle.description.specs.Literals.{Literal, literal, code, literal_code, code_literal}
@@ -119,17 +118,6 @@ is_every_lem F t l = same_test _ _
           ),
         )
     go (suc (suc (suc (suc k)))) r a b n e = absurd (let z = ap kind e in omega arith)
-
--- the mask with i put in, if that is below 16
-pub put_on : (x i : ℕ) (b : Bool) → (ltb i 16 && b) ≡ true → bit_or x (1 * 2 ^ (i % 16) % 65536) ≡ put_in x i (ltb i 16 && b)
-unfolding with
-put_on x i b e = let h : i < 16 = so_ltb i 16 (and_l (ltb i 16) b e) in rw (e, mod-eq_of_lt h) (ap (bit_or x) (single_word 16 i h))
-
-pub put_off : (x i : ℕ) (b : Bool) → (ltb i 16 && b) ≡ false → x ≡ put_in x i (ltb i 16 && b)
-put_off x i b e = rw e refl
-
-pub in_mask_lem : (i : ℕ) (b c : Bool) → i < 16 → b ≡ c → (ltb i 16 && b) ≡ c
-in_mask_lem i b c h e = rw (lt-ltb _ _ h) e
 
 -- the mask of literal l with the role of an entry with these fields, if it is an "every" of the literal
 abbrev pub every_put : ℕ → Code.Fields → ℕ → ℕ

@@ -5,42 +5,40 @@ ghost use Rattle.parts.specs.Numbers.{up_to};
 ghost use Rattle.words.specs.Words.{put_in};
 ghost use Rattle.tables.specs.Tables.{entry_count};
 ghost use Rattle.roles.specs.Records.{role_at};
-ghost use Rattle.entry_tests.specs.Everys.{below_is, below_in, LowerOf, every_put, everys_in, every_by, every_at};
+ghost use Rattle.entry_tests.specs.Everys.{below_is, LowerOf, every_put, everys_in, every_by, every_at};
 
 use parts::up_to;
-use roles::disjoint::within16;
-use roles::{Role, has16};
+use roles::Role;
+use std::array;
 use tables::{EntryNo, Fields, RoleNo, entry_count, fields_at};
-
-// The mask with `i`, if that is asked.
-fn put16(m: u16, i: u8, asked: bool) -> u16
-    ensures { result ≡ put_in m i (ltb i 16 && asked) }
-{
-    if (i < 16) & asked {
-        m | (1 << (i % 16))
-    } else {
-        m
-    }
-}
+use words::Bits;
 
 // Whether the role of this record is transitive and included in role `r`.
 fn is_below(x: Role, r: RoleNo) -> bool
     ensures { result ≡ below_is x r.0 }
 {
-    (x.transitive == 1) & has16(x.ancestors, r.0)
+    (x.transitive == 1) & x.ancestors.has(r.0)
 }
 
-// The transitive roles that are included in role `r`, of the first `n` records.
-fn below(t: [Role; 16], n: u8, r: RoleNo) -> u16
-    requires { n ≤ 16 }
-    ensures { result ≡ below_in t n r.0 }
+// The sets `a`, one for each role, with role `i`, of record `x`, in each where it belongs.
+fn with_role(a: [u16; 16], i: u8, x: Role) -> [u16; 16]
+    ensures { (r : ℕ) → r < 16 → get_or result r 0 ≡ put_in (get_or a r 0) i (ltb i 16 && below_is x r) }
 {
-    let mut out: u16 = 0;
-    let mut i: u8 = 0;
-    while i < n {
-        let x = t[i as usize];
-        out = put16(out, i, is_below(x, r));
-        i += 1;
+    array::from_fn(|r| a[r].put(i, is_below(x, RoleNo(r as u8))))
+}
+
+// For each role the transitive roles that are included in it, of the first `n` records. The table is lent whole beside their number, and
+// is no slice of `n`: the contracts here and of tests 5 and 26 (`every_at`, `simple_at`, `disjoint_kept`) are of all 16 records. Role by
+// role of those that are put in: the compiler takes eight of the others at once.
+fn lower_roles(t: &[Role; 16], n: u8) -> [u16; 16]
+    requires { n ≤ 16 }
+    ensures { LowerOf t.now n result }
+{
+    let mut out: [u16; 16] = [0; 16];
+    for i in 0..n {
+        // No proof is made of `out = with_role(out, ..)`.
+        let next = with_role(out, i, t[i as usize]);
+        out = next;
     }
     out
 }
@@ -49,7 +47,7 @@ fn below(t: [Role; 16], n: u8, r: RoleNo) -> u16
 fn with_every(m: u16, g: Fields, l: u8) -> u16
     ensures { result ≡ every_put m g l }
 {
-    put16(m, g.role, (g.kind == 3) & (g.first == l))
+    m.put(g.role, (g.kind == 3) & (g.first == l))
 }
 
 // For each literal `l` below 128, the roles T that there is an entry "every T l" of.
@@ -58,95 +56,69 @@ fn everys_of(cs: &[u8]) -> [u16; 128]
 {
     let n = entry_count(cs);
     let mut out: [u16; 128] = [0; 128];
-    let mut e: u8 = 0;
-    while e < n {
+    for e in 0..n {
         let g = fields_at(cs, EntryNo(e));
         let l = g.first % 128;
         out[l as usize] = with_every(out[l as usize], g, l);
-        e += 1;
     }
     out
 }
 
-// For each role, the transitive roles that are included in it, of the first `n` records.
-fn lower_roles(t: [Role; 16], n: u8) -> [u16; 16]
-    requires { n ≤ 16 }
-    ensures { LowerOf t n result }
-{
-    let mut out: [u16; 16] = [0; 16];
-    let mut r: u8 = 0;
-    while r < 16 {
-        out[r as usize] = below(t, n, RoleNo(r));
-        r += 1;
-    }
-    out
+// What test 7 is asked by: for each role the transitive roles that are included in it, and what `everys_of` gives.
+#[derive(Drop)]
+struct Asked {
+    lower: [u16; 16],
+    held: [u16; 128],
 }
 
-// Test 7 of the entry with the fields `g`, with the tables of `lower_roles` and `everys_of`.
-fn every_ok(g: Fields, lower: &[u16; 16], held: &[u16; 128]) -> bool
-    ensures { result ≡ every_by g lower.now held.now }
-{
-    if g.kind == 3 {
-        within16(
-            lower[(g.role % 16) as usize],
-            held[(g.first % 128) as usize],
-        )
-    } else {
-        true
+impl Asked {
+    // With the first `n` records.
+    fn of(cs: &[u8], t: &[Role; 16], n: u8) -> Asked
+        requires { n ≤ 16 }
+        ensures lower { LowerOf t.now n result.lower }
+        ensures held { (l : ℕ) → l < 128 → get_or result.held l 0 ≡ everys_in cs.now l }
+    {
+        Asked {
+            lower: lower_roles(t, n),
+            held: everys_of(cs),
+        }
+    }
+
+    // Test 7 of the entry with the fields `g`.
+    fn allows(&self, g: Fields) -> bool
+        ensures { result ≡ every_by g self.now.lower self.now.held }
+    {
+        if g.kind == 3 {
+            self.lower[(g.role % 16) as usize].is_within(self.held[(g.first % 128) as usize])
+        } else {
+            true
+        }
     }
 }
 
 // Test 7 of entry `e`, with the first `n` records.
-pub fn every_at(cs: &[u8], t: [Role; 16], n: u8, e: EntryNo) -> bool
-    ensures { result ≡ every_at cs.now t (up_to 16 n) e.0 }
+pub fn every_at(cs: &[u8], t: &[Role; 16], n: u8, e: EntryNo) -> bool
+    ensures { result ≡ every_at cs.now t.now (up_to 16 n) e.0 }
 {
-    let lower = lower_roles(t, up_to(16, n as usize));
-    let held = everys_of(cs);
-    every_ok(fields_at(cs, e), &lower, &held)
+    Asked::of(cs, t, up_to(16, n as usize)).allows(fields_at(cs, e))
 }
 
 // Whether one of the first `n` roles is transitive.
-fn some_transitive(t: [Role; 16], n: u8) -> bool
+fn some_transitive(t: &[Role; 16], n: u8) -> bool
     requires { n ≤ 16 }
-    ensures { result ≡ any_below n (λ i. eqb (role_at t i).transitive 1) }
+    ensures { result ≡ any_below n (λ i. eqb (role_at t.now i).transitive 1) }
 {
-    let mut i: u8 = 0;
-    while i < n {
-        let x = t[i as usize];
-        if x.transitive == 1 {
-            return true;
-        }
-        i += 1;
-    }
-    false
-}
-
-// Test 7 of all entries, with the first `n` records.
-fn all_ok(cs: &[u8], t: [Role; 16], n: u8) -> bool
-    requires { n ≤ 16 }
-    ensures { result ≡ all_below (entry_count cs.now) (every_at cs.now t n) }
-{
-    let lower = lower_roles(t, n);
-    let held = everys_of(cs);
-    let m = entry_count(cs);
-    let mut e: u8 = 0;
-    while e < m {
-        if !every_ok(fields_at(cs, EntryNo(e)), &lower, &held) {
-            return false;
-        }
-        e += 1;
-    }
-    true
+    (0..n).any(|i| t[i as usize].transitive == 1)
 }
 
 // Test 7, with the first `n` records. Where no role is transitive it asks for nothing.
-pub fn everys_ok(cs: &[u8], t: [Role; 16], n: u8) -> bool
-    ensures { result ≡ all_below (entry_count cs.now) (every_at cs.now t (up_to 16 n)) }
+pub fn everys_ok(cs: &[u8], t: &[Role; 16], n: u8) -> bool
+    ensures { result ≡ all_below (entry_count cs.now) (every_at cs.now t.now (up_to 16 n)) }
 {
     let k = up_to(16, n as usize);
-    if some_transitive(t, k) {
-        all_ok(cs, t, k)
-    } else {
-        true
+    if !some_transitive(t, k) {
+        return true;
     }
+    let asked = Asked::of(cs, t, k);
+    (0..entry_count(cs)).all(|e| asked.allows(fields_at(cs, EntryNo(e))))
 }

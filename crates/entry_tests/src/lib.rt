@@ -21,32 +21,22 @@ fn counts_simple(g: Fields, x: Role) -> bool
 }
 
 // Test 5 of one entry.
-pub fn simple_ok(cs: &[u8], e: EntryNo, t: [Role; 16]) -> bool
-    ensures { result ≡ simple_at cs.now t e.0 }
+pub fn simple_ok(cs: &[u8], e: EntryNo, t: &[Role; 16]) -> bool
+    ensures { result ≡ simple_at cs.now t.now e.0 }
 {
     let g = fields_at(cs, e);
-    let x = t[(g.role % 16) as usize];
-    counts_simple(g, x)
+    counts_simple(g, t[(g.role % 16) as usize])
 }
 
-// Test 5. One record is read for each entry: the table would be copied for a call of `simple_ok`.
-pub fn simples_ok(cs: &[u8], t: [Role; 16]) -> bool
-    ensures { result ≡ all_below (entry_count cs.now) (simple_at cs.now t) }
+// Test 5.
+pub fn simples_ok(cs: &[u8], t: &[Role; 16]) -> bool
+    ensures { result ≡ all_below (entry_count cs.now) (simple_at cs.now t.now) }
 {
-    let n = entry_count(cs);
-    let mut e: u8 = 0;
-    while e < n {
-        let g = fields_at(cs, EntryNo(e));
-        let x = t[(g.role % 16) as usize];
-        if !counts_simple(g, x) {
-            return false;
-        }
-        e += 1;
-    }
-    true
+    (0..entry_count(cs)).all(|e| simple_ok(cs, EntryNo(e), t))
 }
 
-// Whether entry `e` has the fields `b`. Most entries differ in the role or in the first literal: the rest is then not read.
+// Whether entry `e` has the fields `b`. Most entries differ in the role or in the first literal: the rest is then not read. A derived
+// `==` would begin with the kind, which most entries share.
 fn is_twin(cs: &[u8], e: EntryNo, b: Fields) -> bool
     ensures { result ≡ same_fields (fields_at cs.now e.0) (fields_in b) }
 {
@@ -68,13 +58,5 @@ pub fn distinct_ok(cs: &[u8], f: EntryNo) -> bool
     if b.kind < 2 {
         return true;
     }
-    let n = f.0;
-    let mut e: u8 = 0;
-    while e < n {
-        if is_twin(cs, EntryNo(e), b) {
-            return false;
-        }
-        e += 1;
-    }
-    true
+    (0..f.0).all(|e| !is_twin(cs, EntryNo(e), b))
 }

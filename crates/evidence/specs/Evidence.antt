@@ -1,5 +1,6 @@
 -- Evidence in bytes: its head (refusal 9), its records, and the graph that they are (01, "Evidence"; FORMAT 4).
-use Rattle.std.specs.Prelude.{ℕ, ◌+◌, ◌-◌, ◌*◌, ◌/◌, ◌%◌, ◌≤◌, ◌<◌, ◌↔◌, Bool, ◌&&◌, List, [], eqb, leb, take, drop}
+use Rattle.std.specs.Prelude.{ℕ, ◌+◌, ◌-◌, ◌*◌, ◌/◌, ◌%◌, ◌≤◌, ◌<◌, ◌↔◌, Bool, ◌&&◌, List, [], eqb, leb, take, drop, Some, None}
+use Rattle.std.specs.Prelude as Code
 use Rattle.std.proofs.Math.Path.{◌≡◌, refl}
 use Rattle.std.proofs.Common.{◌∙◌, ap, length-drop}
 use Rattle.std.proofs.Math.Logic.Iff
@@ -8,7 +9,7 @@ use Rattle.std.proofs.Math.Option.{Option, none, some}
 use borrow.Author.Tests.{ne_eqb, lt-leb, le-leb}
 use Rattle.std.proofs.Math.ListN.{length}
 use native.Mathlib.Omega.{arith}
-use Rattle.logic.specs.Tests.{So, so_false, reading}
+use Rattle.logic.specs.Tests.{So, reading}
 use Rattle.logic.specs.Lists.{tabulate, length_tabulate, at_tabulate}
 use Rattle.logic.specs.Refusals.{unless}
 use Rattle.parts.specs.Numbers.{byte_at, num2}
@@ -18,7 +19,7 @@ use Rattle.description.specs.Descriptions.{Description}
 use Rattle.graph.specs.Graphs.{Edge, Node, Graph, node_at}
 use Rattle.evidence.specs.declared.Layout.{Layout}
 use Rattle.evidence.specs.declared.Head.{Head}
-use Rattle.evidence.specs.declared.Head.TheVariants.{GraphOf, RefutationOf, Off}
+use Rattle.evidence.specs.declared.Head.TheVariants.{GraphOf, RefutationOf}
 
 -- ---- 9: the head
 -- the number of records; its pairs begin at 2
@@ -40,20 +41,19 @@ unfolding head_test
 head↔ s = simp (reading, fills↔) Iff.rfl
 
 -- what the head says
-unfoldable pub head_of : List ℕ → Head
-head_of s = cond (head_test s) (cond (eqb (byte_at s 0) 1) (GraphOf (record_count s)) (RefutationOf (record_count s))) Off
+unfoldable pub head_of : List ℕ → Code.Option Head
+head_of s = cond (head_test s) (cond (eqb (byte_at s 0) 1) (Some (GraphOf (record_count s))) (Some (RefutationOf (record_count s)))) None
 
 -- the paper's number of each case
-abbrev pub head_refusal : Head → Option ℕ
-head_refusal (GraphOf n) = none
-head_refusal (RefutationOf n) = none
-head_refusal Off = some 9
+abbrev pub head_refusal : Code.Option Head → Option ℕ
+head_refusal (Some h) = none
+head_refusal None = some 9
 
 pub head_refused : (s : List ℕ) → head_refusal (head_of s) ≡ unless (head_test s) 9 none
 unfolding head_of
 head_refused s = go (head_test s) (eqb (byte_at s 0) 1)
   where
-    go : (a b : Bool) → head_refusal (cond a (cond b (GraphOf (record_count s)) (RefutationOf (record_count s))) Off) ≡ unless a 9 none
+    go : (a b : Bool) → head_refusal (cond a (cond b (Some (GraphOf (record_count s))) (Some (RefutationOf (record_count s)))) None) ≡ unless a 9 none
     go true true = refl
     go true false = refl
     go false b = refl
@@ -132,36 +132,36 @@ module _ (s : List ℕ) where
   unfolding head_test
   head_read k n f p q r = rw (r, p, q) refl
 
-  pub head_off : head_test s ≡ false → Off ≡ head_of s
+  pub head_off : head_test s ≡ false → None ≡ head_of s
   unfolding head_of
   head_off e = rw e refl
 
-  pub head_graph : head_test s ≡ true → byte_at s 0 ≡ 1 → (n : ℕ) → n ≡ record_count s → GraphOf n ≡ head_of s
+  pub head_graph : head_test s ≡ true → byte_at s 0 ≡ 1 → (n : ℕ) → n ≡ record_count s → Some (GraphOf n) ≡ head_of s
   unfolding head_of
   head_graph e k n q = rw (e, k, q) refl
 
-  pub head_refutation : head_test s ≡ true → (byte_at s 0 ≡ 1 → ⊥) → (n : ℕ) → n ≡ record_count s → RefutationOf n ≡ head_of s
+  pub head_refutation : head_test s ≡ true → (byte_at s 0 ≡ 1 → ⊥) → (n : ℕ) → n ≡ record_count s → Some (RefutationOf n) ≡ head_of s
   unfolding head_of
   head_refutation e k n q = rw (e, ne_eqb (byte_at s 0) 1 k, q) refl
 
-  pub head_told : (h : Head) → h ≡ head_of s → (h ≡ head_of s) × (head_refusal h ≡ unless (head_test s) 9 none)
+  pub head_told : (h : Code.Option Head) → h ≡ head_of s → (h ≡ head_of s) × (head_refusal h ≡ unless (head_test s) 9 none)
   head_told h e = (e, ap head_refusal e ∙ head_refused s)
 
   -- and what the answer says: a graph with that many records, or none
-  pub head_is_graph : (n : ℕ) → GraphOf n ≡ head_of s → ((head_test s && eqb (byte_at s 0) 1) ≡ true) × (n ≡ record_count s)
+  pub head_is_graph : (n : ℕ) → Some (GraphOf n) ≡ head_of s → ((head_test s && eqb (byte_at s 0) 1) ≡ true) × (n ≡ record_count s)
   unfolding head_of
   head_is_graph n q = go (head_test s) (eqb (byte_at s 0) 1) q
     where
-      go : (a b : Bool) → GraphOf n ≡ cond a (cond b (GraphOf (record_count s)) (RefutationOf (record_count s))) Off → ((a && b) ≡ true) × (n ≡ record_count s)
+      go : (a b : Bool) → Some (GraphOf n) ≡ cond a (cond b (Some (GraphOf (record_count s))) (Some (RefutationOf (record_count s)))) None → ((a && b) ≡ true) × (n ≡ record_count s)
       go true true e = (refl, cc)
-      go true false e = absurd (let z : ◌≡◌ {A = ℕ} 0 1 = cc in omega arith)
-      go false b e = absurd (let z : ◌≡◌ {A = ℕ} 0 1 = cc in omega arith)
+      go true false e = absurd cc
+      go false b e = absurd cc
 
-  pub head_no_graph : (h : Head) → h ≡ head_of s → ((n : ℕ) → h ≡ GraphOf n → ⊥) → (head_test s && eqb (byte_at s 0) 1) ≡ false
+  pub head_no_graph : (h : Code.Option Head) → h ≡ head_of s → ((n : ℕ) → h ≡ Some (GraphOf n) → ⊥) → (head_test s && eqb (byte_at s 0) 1) ≡ false
   unfolding head_of
   head_no_graph h q other = go (head_test s) (eqb (byte_at s 0) 1) q
     where
-      go : (a b : Bool) → h ≡ cond a (cond b (GraphOf (record_count s)) (RefutationOf (record_count s))) Off → (a && b) ≡ false
+      go : (a b : Bool) → h ≡ cond a (cond b (Some (GraphOf (record_count s))) (Some (RefutationOf (record_count s)))) None → (a && b) ≡ false
       go true true e = absurd (other (record_count s) e)
       go true false e = refl
       go false b e = refl

@@ -28,7 +28,6 @@ pub struct Layout {
 pub enum Head {
     GraphOf(u8),
     RefutationOf(u8),
-    Off,
 }
 
 // Test 9.
@@ -41,17 +40,18 @@ fn head_ok(s: &[u8]) -> bool
     ((1 <= kind) & (kind <= 2)) & ((1 <= n) & ((n <= MOST_RECORDS) & filled))
 }
 
-pub fn read_head(s: &[u8]) -> Head
+// None if test 9 fails.
+pub fn read_head(s: &[u8]) -> Option<Head>
     ensures { (result ≡ head_of s.now) × (head_refusal result ≡ unless (head_test s.now) 9 none) }
 {
     if head_ok(s) {
         if byte(s, 0) == 1 {
-            Head::GraphOf(byte(s, 1))
+            Some(Head::GraphOf(byte(s, 1)))
         } else {
-            Head::RefutationOf(byte(s, 1))
+            Some(Head::RefutationOf(byte(s, 1)))
         }
     } else {
-        Head::Off
+        None
     }
 }
 

@@ -4,137 +4,142 @@
 // Prints for each file how often each answer was right, and each row whose answer was another.
 #![tactic(auto)]
 
+mod bytes;
 mod row_answers;
 mod tally;
 
-ghost use Rattle.std.specs.Prelude.{◌≤◌, length, IfOk};
-
+use input::read_full;
 use row_answers::{check_row, claim_row, read_row, write_row};
 use std::fs::File;
 use std::io;
-use std::io::{Read, Write};
+use std::io::Write;
 use std::rt::Files;
-use tally::{Answer, expected, print_answer, print_counts, same, slot};
-use vector_rows::{count, field, file_space, is_remark, mark_from};
+use tally::{Answer, Tally, expected};
+use vector_rows::{field, file_space, is_remark, run_parts};
 
-// What the rows of a file ask.
-#[derive(Clone, Copy)]
-enum Kind {
-    Check,
-    Claim,
-    Write,
-    Read,
-}
+// The data files, by what their rows ask.
+const CHECKS: [&str; 11] = [
+    "check",
+    "check_trials",
+    "check_worst",
+    "check_lists",
+    "check_lists_trials",
+    "check_lists_worst",
+    "check_wide",
+    "check_wide_worst",
+    "check_disjoint",
+    "check_disjoint_trials",
+    "check_disjoint_worst",
+];
 
-fn answer_to(kind: Kind, line: &[u8]) -> Answer {
-    match kind {
-        Kind::Check => check_row(line),
-        Kind::Claim => claim_row(line),
-        Kind::Write => write_row(line),
-        Kind::Read => read_row(line),
-    }
-}
+const CLAIMS: [&str; 6] = [
+    "claims",
+    "claims_trials",
+    "claims_worst",
+    "claims_wide",
+    "claims_disjoint",
+    "claims_disjoint_trials",
+];
 
-// The last field of a row.
-fn expected_of(kind: Kind, line: &[u8]) -> Answer {
-    match kind {
-        Kind::Check => expected(field(line, 1, b'\t')),
-        Kind::Claim => expected(field(line, 5, b'\t')),
-        Kind::Write => expected(field(line, 3, b'\t')),
-        Kind::Read => expected(field(line, 2, b'\t')),
-    }
-}
+const WRITES: [&str; 7] = [
+    "write",
+    "write_trials",
+    "write_worst",
+    "write_wide",
+    "write_wide_worst",
+    "write_disjoint",
+    "write_disjoint_trials",
+];
+
+const READS: [&str; 8] = [
+    "read",
+    "read_trials",
+    "read_worst",
+    "read_wide",
+    "read_wide_worst",
+    "read_disjoint",
+    "read_disjoint_trials",
+    "read_disjoint_worst",
+];
 
 fn print_other(rt: &impl Print, got: Answer, line: &[u8]) -> io::Result<()> {
-    print!(rt; "got ")?;
-    print_answer(rt, got)?;
-    print!(rt; " in the row ")?;
+    print!(rt; "got {got} in the row ")?;
     io::writer(rt).write_all(line)?;
     print!(rt; "\n")
 }
 
-fn run_line(rt: &impl Print, kind: Kind, line: &[u8], counts: &mut [u64]) -> io::Result<()> {
-    if is_remark(line) {
+// Counts a row whose answer is that of field `last`, and prints another.
+fn judge_row(
+    rt: &impl Print,
+    got: Answer,
+    last: usize,
+    line: &[u8],
+    tally: &mut Tally,
+) -> io::Result<()> {
+    if Some(got) == expected(field(line, last, b'\t')) {
+        tally.add(got);
         return Ok(());
     }
-    let got = answer_to(kind, line);
-    if same(got, expected_of(kind, line)) {
-        count(counts, slot(got));
-        Ok(())
-    } else {
-        print_other(rt, got, line)
-    }
+    print_other(rt, got, line)
 }
 
-fn run(rt: &impl Print, kind: Kind, all: &[u8], counts: &mut [u64]) -> io::Result<()> {
-    let mut at = 0;
-    while at < all.len() {
-        let end = mark_from(all, at, b'\n');
-        run_line(rt, kind, &all[at..end], counts)?;
-        at = end + 1;
-    }
-    Ok(())
-}
-
-// Reads until the buffer is full or the input ends, and returns how many bytes it put at the start of the buffer.
-fn read_full(from: &mut impl Read, buf: &mut [u8]) -> io::Result<usize>
-    ensures { IfOk result (λ n. n ≤ length buf.new) }
+// Runs rows that `answer` answers, each of which expects what its field `last` says.
+fn run_rows<F: Fn(&[u8]) -> Answer>(
+    rt: &impl Print,
+    all: &[u8],
+    answer: &F,
+    last: usize,
+    tally: &mut Tally,
+) -> io::Result<()>
+    requires { (f : F) (line : _) → F.pre f line }
 {
-    let mut done = 0;
-    while done < buf.len() {
-        let n = from.read(&mut buf[done..])?;
-        if n == 0 {
-            break;
+    run_parts(all, b'\n', |line| {
+        if is_remark(line) {
+            return Ok(());
         }
-        done += n;
-    }
-    Ok(done)
+        judge_row(rt, answer(line), last, line, tally)
+    })
 }
 
-fn run_file(rt: &(impl Files + Print + Eprint), name: &str, kind: Kind) -> io::Result<()> {
+// Reads a file and runs its rows.
+// Each program has its own: a shared one would be public, and no contract can say what a file gives or what is printed.
+fn run_file<F: Fn(&[u8]) -> Answer>(
+    rt: &(impl Files + Print + Eprint),
+    name: &str,
+    answer: &F,
+    last: usize,
+) -> io::Result<()>
+    requires { (f : F) (line : _) → F.pre f line }
+{
     let mut file = match File::open(rt, name) {
         Ok(file) => file,
         Err(e) => return eprintln!(rt; "{name}: {e}"),
     };
     let mut space = file_space();
     let n = read_full(&mut file, &mut space)?;
-    let mut counts: [u64; 64] = [0; 64];
+    let mut tally = Tally::new();
     println!(rt; "{name}")?;
-    run(rt, kind, &space[..n], &mut counts)?;
-    print_counts(rt, &counts)
+    run_rows(rt, &space[..n], answer, last, &mut tally)?;
+    tally.print(rt)
+}
+
+fn run_files<F: Fn(&[u8]) -> Answer>(
+    rt: &(impl Files + Print + Eprint),
+    names: &[&str],
+    answer: F,
+    last: usize,
+) -> io::Result<()>
+    requires { (f : F) (line : _) → F.pre f line }
+{
+    for name in names {
+        run_file(rt, name, &answer, last)?;
+    }
+    Ok(())
 }
 
 fn main(rt: HostRuntime) -> io::Result<()> {
-    run_file(&rt, "check", Kind::Check)?;
-    run_file(&rt, "check_trials", Kind::Check)?;
-    run_file(&rt, "check_worst", Kind::Check)?;
-    run_file(&rt, "check_lists", Kind::Check)?;
-    run_file(&rt, "check_lists_trials", Kind::Check)?;
-    run_file(&rt, "check_lists_worst", Kind::Check)?;
-    run_file(&rt, "check_wide", Kind::Check)?;
-    run_file(&rt, "check_wide_worst", Kind::Check)?;
-    run_file(&rt, "check_disjoint", Kind::Check)?;
-    run_file(&rt, "check_disjoint_trials", Kind::Check)?;
-    run_file(&rt, "check_disjoint_worst", Kind::Check)?;
-    run_file(&rt, "claims", Kind::Claim)?;
-    run_file(&rt, "claims_trials", Kind::Claim)?;
-    run_file(&rt, "claims_worst", Kind::Claim)?;
-    run_file(&rt, "claims_wide", Kind::Claim)?;
-    run_file(&rt, "claims_disjoint", Kind::Claim)?;
-    run_file(&rt, "claims_disjoint_trials", Kind::Claim)?;
-    run_file(&rt, "write", Kind::Write)?;
-    run_file(&rt, "write_trials", Kind::Write)?;
-    run_file(&rt, "write_worst", Kind::Write)?;
-    run_file(&rt, "write_wide", Kind::Write)?;
-    run_file(&rt, "write_wide_worst", Kind::Write)?;
-    run_file(&rt, "write_disjoint", Kind::Write)?;
-    run_file(&rt, "write_disjoint_trials", Kind::Write)?;
-    run_file(&rt, "read", Kind::Read)?;
-    run_file(&rt, "read_trials", Kind::Read)?;
-    run_file(&rt, "read_worst", Kind::Read)?;
-    run_file(&rt, "read_wide", Kind::Read)?;
-    run_file(&rt, "read_wide_worst", Kind::Read)?;
-    run_file(&rt, "read_disjoint", Kind::Read)?;
-    run_file(&rt, "read_disjoint_trials", Kind::Read)?;
-    run_file(&rt, "read_disjoint_worst", Kind::Read)
+    run_files(&rt, &CHECKS, check_row, 1)?;
+    run_files(&rt, &CLAIMS, claim_row, 5)?;
+    run_files(&rt, &WRITES, write_row, 3)?;
+    run_files(&rt, &READS, read_row, 2)
 }

@@ -1,58 +1,115 @@
 // Answers, how they are printed, and how often each was right.
-use answers::{Judgement, Reading, Verdict, Written};
+use answers::{Judgement, Reading, Refusal, Verdict};
 use parts::byte;
-use std::io;
-use vector_rows::{field, number};
+use std::fmt::Display;
+use std::{fmt, io};
+use vector_rows::{count, field, number};
 
-// An answer: the first letter of its word, or 'V' for HOLDS OF NOTHING, then a refusal's number and record, or a line's length.
-#[derive(Clone, Copy)]
+// The word of an answer, in the order in which the counts are printed.
+#[derive(Clone, Copy, PartialEq, Eq)]
+pub(crate) enum Word {
+    Empty,
+    Fails,
+    Holds,
+    Inhabited,
+    Line,
+    NoModel,
+    OtherBytes,
+    HoldsOfNothing,
+    Refused,
+}
+
+impl Display for Word {
+    fn fmt<W: fmt::Write>(&self, f: &mut fmt::Formatter<W>) -> fmt::Result {
+        f.write_str(match self {
+            Word::Empty => "EMPTY",
+            Word::Fails => "FAILS",
+            Word::Holds => "HOLDS",
+            Word::Inhabited => "INHABITED",
+            Word::Line => "LINE",
+            Word::NoModel => "A LINE THAT DOES NOT HOLD",
+            Word::OtherBytes => "OTHER BYTES",
+            Word::HoldsOfNothing => "HOLDS OF NOTHING",
+            Word::Refused => "REFUSED",
+        })
+    }
+}
+
+// An answer: its word, then a refusal's number and record, or a line's length.
+#[derive(Clone, Copy, PartialEq, Eq)]
 pub(crate) struct Answer {
-    pub(crate) word: u8,
+    pub(crate) word: Word,
     pub(crate) number: usize,
     pub(crate) place: usize,
 }
 
-pub(crate) fn told(word: u8, number: usize, place: usize) -> Answer {
-    Answer {
-        word: word,
-        number: number,
-        place: place,
+impl Display for Answer {
+    fn fmt<W: fmt::Write>(&self, f: &mut fmt::Formatter<W>) -> fmt::Result {
+        write!(f, "{} {} {}", self.word, self.number, self.place)
     }
 }
 
-fn refusal(number: u8, place: u8) -> Answer {
-    told(b'R', number as usize, place as usize)
-}
-
-pub(crate) fn of_verdict(v: Verdict) -> Answer {
-    match v {
-        Verdict::Inhabited => told(b'I', 0, 0),
-        Verdict::Empty => told(b'E', 0, 0),
-        Verdict::Refused(number, place) => refusal(number, place),
+impl From<Word> for Answer {
+    fn from(word: Word) -> Answer {
+        Answer {
+            word,
+            number: 0,
+            place: 0,
+        }
     }
 }
 
-pub(crate) fn of_judgement(v: Judgement) -> Answer {
-    match v {
-        Judgement::Holds => told(b'H', 0, 0),
-        Judgement::Fails => told(b'F', 0, 0),
-        Judgement::HoldsOfNothing => told(b'V', 0, 0),
-        Judgement::Refused(number, place) => refusal(number, place),
+impl From<Refusal> for Answer {
+    fn from(r: Refusal) -> Answer {
+        Answer {
+            word: Word::Refused,
+            number: usize::from(r.reason.number()),
+            place: usize::from(r.place),
+        }
     }
 }
 
-pub(crate) fn of_written(w: Written) -> Answer {
-    match w {
-        Written::Line(n) => told(b'L', n, 0),
-        Written::Refused(number, place) => refusal(number, place),
+impl From<Verdict> for Answer {
+    fn from(v: Verdict) -> Answer {
+        match v {
+            Verdict::Inhabited => Word::Inhabited.into(),
+            Verdict::Empty => Word::Empty.into(),
+            Verdict::Refused(r) => r.into(),
+        }
     }
 }
 
-pub(crate) fn of_reading(r: Reading) -> Answer {
-    match r {
-        Reading::Holds => told(b'H', 0, 0),
-        Reading::Fails => told(b'F', 0, 0),
-        Reading::Refused(number, place) => refusal(number, place),
+impl From<Result<Judgement, Refusal>> for Answer {
+    fn from(v: Result<Judgement, Refusal>) -> Answer {
+        match v {
+            Ok(Judgement::Holds) => Word::Holds.into(),
+            Ok(Judgement::Fails) => Word::Fails.into(),
+            Ok(Judgement::HoldsOfNothing) => Word::HoldsOfNothing.into(),
+            Err(r) => r.into(),
+        }
+    }
+}
+
+impl From<Result<Reading, Refusal>> for Answer {
+    fn from(v: Result<Reading, Refusal>) -> Answer {
+        match v {
+            Ok(Reading::Holds) => Word::Holds.into(),
+            Ok(Reading::Fails) => Word::Fails.into(),
+            Err(r) => r.into(),
+        }
+    }
+}
+
+impl From<Result<usize, Refusal>> for Answer {
+    fn from(v: Result<usize, Refusal>) -> Answer {
+        match v {
+            Ok(length) => Answer {
+                word: Word::Line,
+                number: length,
+                place: 0,
+            },
+            Err(r) => r.into(),
+        }
     }
 }
 
@@ -64,83 +121,90 @@ pub(crate) fn line_digits(text: &[u8]) -> &[u8] {
     &text[..0]
 }
 
-// HOLDS OF NOTHING begins as HOLDS does.
-fn of_nothing(text: &[u8]) -> bool {
-    (byte(text, 0) == b'H') & (byte(text, 6) == b'O')
-}
-
-// The answer that a row expects: a word, with the two numbers of a refusal, or with the bytes of a line.
-pub(crate) fn expected(text: &[u8]) -> Answer {
-    let word = byte(text, 0);
-    if word == b'L' {
-        let hex = line_digits(text);
-        return told(word, hex.len() / 2, 0);
-    }
-    if of_nothing(text) {
-        return told(
-            b'V',
-            number(field(text, 3, b' ')),
-            number(field(text, 4, b' ')),
-        );
-    }
-    told(
+// The answer of a word whose two numbers are fields `k` and `k + 1` of the text.
+fn numbered(word: Word, text: &[u8], k: u8) -> Answer {
+    let k = usize::from(k);
+    Answer {
         word,
-        number(field(text, 1, b' ')),
-        number(field(text, 2, b' ')),
-    )
-}
-
-pub(crate) fn same(a: Answer, b: Answer) -> bool {
-    (a.word == b.word) & ((a.number == b.number) & (a.place == b.place))
-}
-
-fn print_word(rt: &impl Print, word: u8) -> io::Result<()> {
-    match word {
-        b'I' => print!(rt; "INHABITED"),
-        b'E' => print!(rt; "EMPTY"),
-        b'L' => print!(rt; "LINE"),
-        b'H' => print!(rt; "HOLDS"),
-        b'F' => print!(rt; "FAILS"),
-        b'V' => print!(rt; "HOLDS OF NOTHING"),
-        b'R' => print!(rt; "REFUSED"),
-        b'O' => print!(rt; "OTHER BYTES"),
-        _ => print!(rt; "A LINE THAT DOES NOT HOLD"),
+        number: number(field(text, k, b' ')),
+        place: number(field(text, k + 1, b' ')),
     }
 }
 
-pub(crate) fn print_answer(rt: &impl Print, a: Answer) -> io::Result<()> {
-    print_word(rt, a.word)?;
-    print!(rt; " {} {}", a.number, a.place)
+// The answer that a row expects, if its first letter is that of an answer: a word, with two numbers, or with the bytes of a line.
+// HOLDS OF NOTHING begins as HOLDS does, or with a V.
+pub(crate) fn expected(text: &[u8]) -> Option<Answer> {
+    let answer = match byte(text, 0) {
+        b'I' => numbered(Word::Inhabited, text, 1),
+        b'E' => numbered(Word::Empty, text, 1),
+        b'F' => numbered(Word::Fails, text, 1),
+        b'H' if byte(text, 6) == b'O' => numbered(Word::HoldsOfNothing, text, 3),
+        b'H' => numbered(Word::Holds, text, 1),
+        b'V' => numbered(Word::HoldsOfNothing, text, 1),
+        b'R' => numbered(Word::Refused, text, 1),
+        b'L' => Answer {
+            word: Word::Line,
+            number: line_digits(text).len() / 2,
+            place: 0,
+        },
+        _ => return None,
+    };
+    Some(answer)
 }
 
-// Where an answer is counted: by its letter, or by its number if it is a refusal.
-pub(crate) fn slot(a: Answer) -> usize {
-    if a.word == b'R' {
-        32 + a.number % 32
-    } else {
-        (a.word % 32) as usize
-    }
+// How often each answer was right: by its word, and a refusal by its number.
+// Each program has its own: a shared one would be public, and no contract can say what is printed.
+#[derive(Drop)]
+pub(crate) struct Tally {
+    words: [u64; 8],
+    refusals: [u64; 32],
 }
 
-fn print_count(rt: &impl Print, k: usize, n: u64) -> io::Result<()> {
-    if n == 0 {
-        return Ok(());
-    }
-    if k < 32 {
-        print_word(rt, 64 + ((k % 32) as u8))?;
-    } else {
-        print_word(rt, b'R')?;
-        print!(rt; " {}", (k as u64) - 32)?;
-    }
-    println!(rt; ": {n}")
-}
+// The words but REFUSED.
+const WORDS: [Word; 8] = [
+    Word::Empty,
+    Word::Fails,
+    Word::Holds,
+    Word::Inhabited,
+    Word::Line,
+    Word::NoModel,
+    Word::OtherBytes,
+    Word::HoldsOfNothing,
+];
 
-// How often each answer came, those of no row left out.
-pub(crate) fn print_counts(rt: &impl Print, counts: &[u64]) -> io::Result<()> {
-    let mut k = 0;
-    while k < counts.len() {
-        print_count(rt, k, counts[k])?;
-        k += 1;
+impl Tally {
+    pub(crate) fn new() -> Tally {
+        Tally {
+            words: [0; 8],
+            refusals: [0; 32],
+        }
     }
-    Ok(())
+
+    pub(crate) fn add(&mut self, a: Answer) {
+        if a.word == Word::Refused {
+            count(&mut self.refusals, a.number);
+        } else {
+            count(&mut self.words, a.word as usize);
+        }
+    }
+
+    // How often each word came, those of no row left out.
+    fn print_words(&self, rt: &impl Print) -> io::Result<()> {
+        for (word, n) in WORDS.iter().zip(&self.words) {
+            if *n != 0 {
+                println!(rt; "{word}: {n}")?;
+            }
+        }
+        Ok(())
+    }
+
+    pub(crate) fn print(&self, rt: &impl Print) -> io::Result<()> {
+        self.print_words(rt)?;
+        for (number, n) in self.refusals.iter().enumerate() {
+            if *n != 0 {
+                println!(rt; "REFUSED {number}: {n}")?;
+            }
+        }
+        Ok(())
+    }
 }

@@ -9,7 +9,7 @@ use Rattle.parts.specs.Numbers.{byte_at}
 use Rattle.graph.specs.Graphs.{Keeps, GraphFits}
 use Rattle.graph.specs.GraphTests.{stored_graph, graph_refusal}
 use Rattle.graph.proofs.GraphTests.{graph↔}
-use Rattle.intake.specs.Intake.{bytes_test, described, AcceptedBytes, accepted_bytes↔}
+use Rattle.intake.specs.Intake.{bytes_test, described}
 use Rattle.evidence.specs.declared.Layout.{Layout}
 use Rattle.evidence.specs.Evidence.{record_count, layout_of, HeadOk, head_test, head↔, record_at, graph_in, graph_size, NodeForm, node_form_test, node_form↔}
 

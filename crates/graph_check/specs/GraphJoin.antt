@@ -10,7 +10,7 @@ use Rattle.logic.specs.Bounded.{all_below}
 use Rattle.logic.specs.Lists.{each}
 use Rattle.parts.specs.Numbers.{up_to, up_to_all}
 use Rattle.description.specs.Literals.{Literal, members, literal_set}
-use Rattle.description.specs.Descriptions.{Description, wanted}
+use Rattle.description.specs.Descriptions.{Description}
 use Rattle.description.proofs.Roles.{anc_in}
 use Rattle.tables.specs.Tables.{records_in, describe, entry_count}
 use Rattle.roles.specs.Ancestors.{role_count}
@@ -22,7 +22,7 @@ use Rattle.evidence.specs.Evidence.{record_count, layout_of, most_edges, HeadOk,
 use Rattle.evidence.proofs.InPlace.{record_length, label_there, edges_there, edges_few}
 use Rattle.graph.specs.Graphs.{label_at, node_at, edges_at, wanted_at}
 use Rattle.graph.specs.GraphTests.{stored_graph, label_test, both_test, edge_test, node_refusal, node_form, graph_refusal}
-use Rattle.nodes.specs.NodeSteps.{label_code, required_set, label_is, root_set, root_is, both_at, both_is}
+use Rattle.nodes.specs.NodeSteps.{label_code, required_set, label_is, both_at, both_is}
 use Rattle.edges.specs.EdgeSteps.{edges_code}
 use Rattle.edges.proofs.EdgeSteps.{edges_are}
 use Rattle.fillers.specs.FillerLaws.{everys_are, counts_are}

@@ -15,8 +15,10 @@ use Rattle.edges.specs.EdgeSteps.{edges_code}
 use Rattle.sources.specs.Sources.{SourcesOf}
 use Rattle.fillers.specs.FillerSteps.{everys_code, everys_with, counts_code}
 use Rattle.fillers.specs.FillerLaws.{everys_with_lem}
-use Rattle.answers.specs.declared.Tested.TheVariants.{Refused}
-use Rattle.answers.specs.Answers.{refusal_of}
+use Rattle.answers.specs.declared.Refusal as Code
+use Rattle.answers.specs.declared.Reason.TheVariants as is
+use Rattle.answers.specs.Reasons.{refused}
+use Rattle.answers.specs.Answers.{numbered}
 use Rattle.graph_check.specs.GraphEvidence.{graph_head}
 
 -- 10, of record i, by the length that its pair gives
@@ -79,18 +81,19 @@ module _ (a : List ℕ) (m : ℕ) (cs src : List ℕ) (K : ℕ) (num : ℕ → �
   abbrev node : Option Refusal
   node = refuse i (node_with a m cs src K num n N es) none
 
-  pub stops_11 : label_code (entry_count cs) N K ≡ false → refusal_of (Refused 11 i) ≡ node
+  pub stops_11 : label_code (entry_count cs) N K ≡ false → (r : Code.Refusal) → r ≡ refused is.Label i → some (numbered r) ≡ node
   unfolding node_tests
-  stops_11 e = rw e refl
+  stops_11 e r k = rw (e, k) refl
 
-  pub stops_12 : label_code (entry_count cs) N K ≡ true → all_below (entry_count cs) (both_at cs N) ≡ false → refusal_of (Refused 12 i) ≡ node
+  pub stops_12 : label_code (entry_count cs) N K ≡ true → all_below (entry_count cs) (both_at cs N) ≡ false
+      → (r : Code.Refusal) → r ≡ refused is.Both i → some (numbered r) ≡ node
   unfolding node_tests
-  stops_12 p e = rw (p, e) refl
+  stops_12 p e r k = rw (p, e, k) refl
 
   pub stops_13 : label_code (entry_count cs) N K ≡ true → all_below (entry_count cs) (both_at cs N) ≡ true → edges_code a (up_to 16 m) n es ≡ false
-      → refusal_of (Refused 13 i) ≡ node
+      → (r : Code.Refusal) → r ≡ refused is.Edge i → some (numbered r) ≡ node
   unfolding node_tests
-  stops_13 p q e = rw (p, q, e) refl
+  stops_13 p q e r k = rw (p, q, e, k) refl
 
   pub goes_on : label_code (entry_count cs) N K ≡ true → all_below (entry_count cs) (both_at cs N) ≡ true → edges_code a (up_to 16 m) n es ≡ true
       → refuse i (unless (everys_with cs num src N es) 14 (unless (counts_code cs num N es) 15 none)) none ≡ node
@@ -127,9 +130,9 @@ module _ (a : List ℕ) (m : ℕ) (cs qs : List ℕ) (M : ℕ) (s : List ℕ) (n
 
 -- 9, then those
 module _ (a : List ℕ) (m : ℕ) (cs qs : List ℕ) (M : ℕ) (s : List ℕ) where
-  pub head_stop : graph_head s ≡ false → refusal_of (Refused 9 0) ≡ graph_code a m cs qs M s
+  pub head_stop : graph_head s ≡ false → (r : Code.Refusal) → r ≡ refused is.Head 0 → some (numbered r) ≡ graph_code a m cs qs M s
   unfolding graph_code
-  head_stop e = rw e refl
+  head_stop e r k = rw (e, k) refl
 
   pub head_on : (n : ℕ) → graph_head s ≡ true → n ≡ record_count s → records_code a m cs qs M s n ≡ graph_code a m cs qs M s
   unfolding graph_code

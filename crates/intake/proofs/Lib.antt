@@ -1,1 +1,3 @@
 pub mod Intake
+pub mod Listed
+pub mod Answered

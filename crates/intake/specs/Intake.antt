@@ -11,9 +11,6 @@ use Rattle.description.specs.Acceptance.{Accepted, description_tests}
 use Rattle.description.proofs.Acceptance.{formed↔}
 use Rattle.tables.specs.Tables.{fields_at, records_in, describe}
 use Rattle.labels.specs.Labels.{most_entries}
-use Rattle.answers.specs.declared.Tested.{Tested}
-use Rattle.answers.specs.declared.Tested.TheVariants.{Fine}
-use Rattle.answers.specs.Answers.{refusal_of, wholly, fine↔}
 use Rattle.directory.specs.Directory.{four, pair_count, directory_test, roles_part, concepts_part, query_part, disjoint_part}
 
 -- the description that the bytes are

@@ -12,18 +12,19 @@ ghost use Rattle.answers.specs.Answers.{refusal_of, wholly};
 ghost use Rattle.directory.specs.Directory.{roles_part};
 ghost use Rattle.entry_tests.specs.Entries.{twin_at};
 ghost use Rattle.intake.specs.Intake.{sizes_test, bytes_test};
-ghost use Rattle.intake.specs.Steps.{later_test, steps_test, role_kept, disjoints_code};
+ghost use Rattle.intake.specs.Steps.{later_test, steps_test, role_kept, disjoint_kept, disjoints_code};
 ghost use Rattle.intake.specs.Opening.{Opens};
 
-use answers::Tested;
+use answers::{Reason, Refusal};
 use directory::{concepts_part, directory_ok, disjoint_part, query_part, roles_part};
 use entry_tests::everys::everys_ok;
 use entry_tests::{distinct_ok, simples_ok};
 use labels::MOST_ENTRIES;
 use parts::{byte, mask2};
 use roles::disjoint::disjoint_count;
-use roles::{Role, fits16, role_count, role_masks, role_table};
+use roles::{Role, role_count, role_masks, role_table};
 use tables::{EntryNo, RoleNo, entry_ok};
+use words::Bits;
 
 // A part of `len` bytes: whole records of `size` bytes, at least one, within `most` bytes.
 fn records_ok(len: usize, size: usize, most: usize) -> bool
@@ -33,14 +34,23 @@ fn records_ok(len: usize, size: usize, most: usize) -> bool
     (len % size == 0) & ((size <= len) & (len <= most))
 }
 
+// The parts of a description, each as a slice of it.
+#[derive(Clone, Copy)]
+struct Parts<'a> {
+    roles: &'a [u8],
+    concepts: &'a [u8],
+    query: &'a [u8],
+    disjoint: &'a [u8],
+}
+
 // Test 2.
-fn sizes_ok(rs: &[u8], cs: &[u8], qs: &[u8], ps: &[u8]) -> bool
-    ensures { result ≡ sizes_test rs.now cs.now qs.now ps.now }
+fn sizes_ok(p: Parts) -> bool
+    ensures { result ≡ sizes_test p.entry.roles.now p.entry.concepts.now p.entry.query.now p.entry.disjoint.now }
 {
-    let asked = qs.len();
-    let held = ps.len();
-    records_ok(rs.len(), 3, 48)
-        & (records_ok(cs.len(), 6, 6 * (MOST_ENTRIES as usize))
+    let asked = p.query.len();
+    let held = p.disjoint.len();
+    records_ok(p.roles.len(), 3, 48)
+        & (records_ok(p.concepts.len(), 6, 6 * (MOST_ENTRIES as usize))
             & (((1 <= asked) & (asked <= 17)) & ((held % 2 == 0) & (held <= 32))))
 }
 
@@ -50,7 +60,7 @@ fn role_ok(rs: &[u8], r: RoleNo, n: usize) -> bool
     ensures { result ≡ (leb (byte_at rs.now (3 * r.0)) 1 && narrow (num2 rs.now (3 * r.0 + 1)) n) }
 {
     let at = 3 * (r.0 as usize);
-    (byte(rs, at) <= 1) & fits16(mask2(rs, at + 1), n)
+    (byte(rs, at) <= 1) & mask2(rs, at + 1).is_below(n)
 }
 
 // Test 3.
@@ -59,14 +69,7 @@ fn roles_ok(rs: &[u8]) -> bool
     ensures { result ≡ all_below (length rs.now / 3) (role_kept rs.now) }
 {
     let n = rs.len() / 3;
-    let mut r: u8 = 0;
-    while (r as usize) < n {
-        if !role_ok(rs, RoleNo(r), n) {
-            return false;
-        }
-        r += 1;
-    }
-    true
+    (0..n as u8).all(|r| role_ok(rs, RoleNo(r), n))
 }
 
 // Test 4, in a table of `roles` roles.
@@ -74,15 +77,7 @@ fn entries_ok(cs: &[u8], roles: usize) -> bool
     requires { length cs.now / 6 ≤ most_entries }
     ensures { result ≡ all_below (length cs.now / 6) (λ e. fields_test roles e (fields_at cs.now e)) }
 {
-    let n = cs.len() / 6;
-    let mut e: u8 = 0;
-    while (e as usize) < n {
-        if !entry_ok(cs, EntryNo(e), roles) {
-            return false;
-        }
-        e += 1;
-    }
-    true
+    (0..(cs.len() / 6) as u8).all(|e| entry_ok(cs, EntryNo(e), roles))
 }
 
 // Test 6.
@@ -90,147 +85,113 @@ fn distincts_ok(cs: &[u8]) -> bool
     requires { length cs.now / 6 ≤ most_entries }
     ensures { result ≡ all_below (length cs.now / 6) (λ f. all_below f (λ e. not (twin_at cs.now f e))) }
 {
-    let n = cs.len() / 6;
-    let mut f: u8 = 0;
-    while (f as usize) < n {
-        if !distinct_ok(cs, EntryNo(f)) {
-            return false;
-        }
-        f += 1;
-    }
-    true
-}
-
-// Whether byte `i` of the query is a literal below `limit`.
-fn literal_ok(qs: &[u8], i: usize, limit: usize) -> bool
-    ensures { result ≡ ltb (byte_at qs.now i) limit }
-{
-    (byte(qs, i) as usize) < limit
+    (0..(cs.len() / 6) as u8).all(|f| distinct_ok(cs, EntryNo(f)))
 }
 
 // Test 8; `limit` is the number of literals.
 fn query_ok(qs: &[u8], limit: usize) -> bool
     ensures { result ≡ all_below (length qs.now) (λ i. ltb (byte_at qs.now i) limit) }
 {
-    let n = qs.len();
-    let mut i = 0;
-    while i < n {
-        if !literal_ok(qs, i, limit) {
-            return false;
-        }
-        i += 1;
-    }
-    true
+    qs.iter().all(|l| (*l as usize) < limit)
 }
 
-// Test 26 of a record of the fourth part that names the roles `r` and `s`, in a table of `n` roles; `x` and `y` are their role records.
-fn disjoint_ok(r: u8, s: u8, n: u8, x: Role, y: Role) -> bool
-    ensures { result ≡ ((ltb r n && ltb s n) && (not (eqb r s) && (x.simple && y.simple))) }
+// Test 26 of record `i` of the fourth part, with the first `n` role records.
+fn disjoint_ok(ps: &[u8], t: &[Role; 16], n: u8, i: u8) -> bool
+    ensures { result ≡ disjoint_kept ps.now t.now n i }
 {
-    ((r < n) & (s < n)) & (!(r == s) & (x.simple & y.simple))
+    let one = byte(ps, 2 * (i as usize));
+    let other = byte(ps, 2 * (i as usize) + 1);
+    let x = t[(one % 16) as usize];
+    let y = t[(other % 16) as usize];
+    ((one < n) & (other < n)) & (!(one == other) & (x.simple & y.simple))
 }
 
 // Test 26, with the first `n` role records.
-fn disjoints_ok(ps: &[u8], t: [Role; 16], n: u8) -> bool
-    ensures { result ≡ disjoints_code ps.now t n }
+fn disjoints_ok(ps: &[u8], t: &[Role; 16], n: u8) -> bool
+    ensures { result ≡ disjoints_code ps.now t.now n }
 {
-    let count = disjoint_count(ps);
-    let mut i: u8 = 0;
-    while i < count {
-        let one = byte(ps, 2 * (i as usize));
-        let other = byte(ps, 2 * (i as usize) + 1);
-        let x = t[(one % 16) as usize];
-        let y = t[(other % 16) as usize];
-        if !disjoint_ok(one, other, n, x, y) {
-            return false;
-        }
-        i += 1;
-    }
-    true
+    (0..disjoint_count(ps)).all(|i| disjoint_ok(ps, t, n, i))
 }
 
 // Tests 5 to 8 and 26, with the first `n` role records.
-fn test_later(cs: &[u8], qs: &[u8], ps: &[u8], t: [Role; 16], n: u8) -> Tested
-    requires { (length cs.now / 6 ≤ most_entries) × (n ≤ 16) }
-    ensures { refusal_of result ≡ wholly (later_test cs.now qs.now ps.now t (up_to 16 n)) }
+fn test_later(p: Parts, t: &[Role; 16], n: u8) -> Result<(), Refusal>
+    requires { (length p.concepts.now / 6 ≤ most_entries) × (n ≤ 16) }
+    ensures { refusal_of result ≡ wholly (later_test p.entry.concepts.now p.entry.query.now p.entry.disjoint.now t.now (up_to 16 n)) }
 {
+    let cs = p.concepts;
     if !simples_ok(cs, t) {
-        return Tested::Refused(5, 0);
+        return Err(Reason::Simple.whole());
     }
     if !distincts_ok(cs) {
-        return Tested::Refused(6, 0);
+        return Err(Reason::Twin.whole());
     }
     if !everys_ok(cs, t, n) {
-        return Tested::Refused(7, 0);
+        return Err(Reason::MissingEvery.whole());
     }
-    if !query_ok(qs, 2 * (cs.len() / 6)) {
-        return Tested::Refused(8, 0);
+    if !query_ok(p.query, 2 * (cs.len() / 6)) {
+        return Err(Reason::Question.whole());
     }
-    if !disjoints_ok(ps, t, n) {
-        return Tested::Refused(26, 0);
+    if !disjoints_ok(p.disjoint, t, n) {
+        return Err(Reason::Disjoint.whole());
     }
-    Tested::Fine
+    Ok(())
 }
 
 // Tests 2 to 8 and 26 of the parts, with the records of the roles.
-fn test_parts(rs: &[u8], cs: &[u8], qs: &[u8], ps: &[u8], t: [Role; 16]) -> Tested
-    ensures { refusal_of result ≡ wholly (steps_test rs.now cs.now qs.now ps.now t) }
+fn test_parts(p: Parts, t: &[Role; 16]) -> Result<(), Refusal>
+    ensures { refusal_of result ≡ wholly (steps_test p.entry.roles.now p.entry.concepts.now p.entry.query.now p.entry.disjoint.now t.now) }
 {
-    if !sizes_ok(rs, cs, qs, ps) {
-        return Tested::Refused(2, 0);
+    if !sizes_ok(p) {
+        return Err(Reason::Part.whole());
     }
-    if !roles_ok(rs) {
-        return Tested::Refused(3, 0);
+    if !roles_ok(p.roles) {
+        return Err(Reason::Role.whole());
     }
-    if !entries_ok(cs, rs.len() / 3) {
-        return Tested::Refused(4, 0);
+    if !entries_ok(p.concepts, p.roles.len() / 3) {
+        return Err(Reason::Entry.whole());
     }
-    test_later(cs, qs, ps, t, role_count(rs))
+    test_later(p, t, role_count(p.roles))
 }
 
 // Tests 1 to 8 and 26, with the same records.
-fn test_bytes(d: &[u8], t: [Role; 16]) -> Tested
-    ensures { t ≡ role_table (roles_part d.now) → refusal_of result ≡ wholly (bytes_test d.now) }
+fn test_bytes(d: &[u8], t: &[Role; 16]) -> Result<(), Refusal>
+    ensures { t.now ≡ role_table (roles_part d.now) → refusal_of result ≡ wholly (bytes_test d.now) }
 {
     if !directory_ok(d) {
-        return Tested::Refused(1, 0);
+        return Err(Reason::Directory.whole());
     }
-    test_parts(
-        roles_part(d),
-        concepts_part(d),
-        query_part(d),
-        disjoint_part(d),
-        t,
-    )
+    let p = Parts {
+        roles: roles_part(d),
+        concepts: concepts_part(d),
+        query: query_part(d),
+        disjoint: disjoint_part(d),
+    };
+    test_parts(p, t)
 }
 
-// A description that has been opened: what tests 1 to 8 and 26 say, the masks that evidence asks of its roles and records, the number of
-// roles. The records of the roles stay here: they would be copied for each call of the checker.
-#[derive(Drop)]
+// A description that no test refuses, opened: the masks that evidence asks of its roles and records, and the number of roles.
+#[derive(Clone, Copy)]
 pub struct Opening {
-    pub tested: Tested,
     pub masks: [u16; 49],
     pub count: u8,
 }
 
-// Opens a description. Every entry point begins with this.
-pub fn open_description(d: &[u8]) -> Opening
+// Opens a description by tests 1 to 8 and 26. Every entry point begins with this.
+pub fn open_description(d: &[u8]) -> Result<Opening, Refusal>
     ensures { Opens d.now result }
 {
     let rs = roles_part(d);
     let t = role_table(rs);
-    let m = role_masks(t, disjoint_part(d));
-    Opening {
-        tested: test_bytes(d, t),
-        masks: m,
+    test_bytes(d, &t)?;
+    Ok(Opening {
+        masks: role_masks(&t, disjoint_part(d)),
         count: role_count(rs),
-    }
+    })
 }
 
 // Tests 1 to 8 and 26 of a description.
-pub fn test_description(d: &[u8]) -> Tested
+pub fn test_description(d: &[u8]) -> Result<(), Refusal>
     ensures { refusal_of result ≡ wholly (bytes_test d.now) }
 {
-    let o = open_description(d);
-    o.tested
+    test_bytes(d, &role_table(roles_part(d)))
 }

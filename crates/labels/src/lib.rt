@@ -1,7 +1,7 @@
 // Labels and name masks: sets of literals and of entries, read in place and held in words. Only this crate knows how wide they are.
 #![tactic(auto)]
 
-mod words;
+mod halves;
 
 ghost use Rattle.std.specs.Prelude.{◌≡◌, ◌+◌, ◌-◌, ◌*◌, ◌/◌, ◌%◌, ◌^◌, ◌<◌, ◌≤◌};
 ghost use Rattle.std.specs.Int.Bits.{bit_or};
@@ -11,8 +11,9 @@ ghost use Rattle.labels.specs.Blocks.{block};
 ghost use Rattle.labels.specs.Labels.{wide, label_bytes, name_bytes, num4, num8, label_in, names_in, label_with, value_of};
 ghost use Rattle.labels.specs.Words.{word_of, rest_at, unopposed, entries_of};
 
+use halves::half;
 use parts::{byte, mask2};
-use words::{half, has64};
+use words::Bits;
 
 // A table has at most so many entries, and a label room for their literals; what is stored for more than 32 is wide.
 pub const MOST_ENTRIES: u8 = 64;
@@ -92,7 +93,8 @@ fn cut_octet(s: &[u8], at: usize) -> u64
     }
 }
 
-// The same, with two comparisons if the eight bytes are there, not one a byte: every rule reads labels.
+// The same, with two comparisons if the eight bytes are there, not one a byte: every rule reads labels. The library's
+// from_be_bytes was tried: each label takes five instructions more with it, and a list two in a hundred.
 fn octet(s: &[u8], at: usize) -> u64
     ensures { result ≡ num8 s.now at }
 {
@@ -185,17 +187,10 @@ pub fn holds(x: Label, l: u8) -> bool
     ensures { result ≡ has (value_of x) l }
 {
     if l < 64 {
-        has64(x.low, l)
+        x.low.has(l)
     } else {
-        has64(x.high, l - 64)
+        x.high.has(l - 64)
     }
-}
-
-// Whether the word holds numbers below `n` alone.
-fn below64(x: u64, n: u8) -> bool
-    ensures { result ≡ narrow x n }
-{
-    if n < 64 { x < (1 << n) } else { true }
 }
 
 // Whether the label holds literals below `n` alone.
@@ -203,10 +198,9 @@ pub fn below(x: Label, n: u8) -> bool
     ensures { result ≡ narrow (value_of x) n }
 {
     if n < 64 {
-        let rest = below64(x.low, n);
-        (x.high == 0) & rest
+        (x.high == 0) & x.low.is_below(usize::from(n))
     } else {
-        below64(x.high, n - 64)
+        x.high.is_below(usize::from(n - 64))
     }
 }
 
@@ -214,7 +208,7 @@ pub fn below(x: Label, n: u8) -> bool
 pub fn lies_within(x: Label, y: Label) -> bool
     ensures { result ≡ within (value_of x) (value_of y) }
 {
-    (x.high & y.high == x.high) & (x.low & y.low == x.low)
+    x.high.is_within(y.high) & x.low.is_within(y.low)
 }
 
 // What is in one of two labels.

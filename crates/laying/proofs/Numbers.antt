@@ -1,5 +1,5 @@
 -- Numbers of several bytes are read as they were written, at any width.
-use Rattle.std.specs.Prelude.{ℕ, ◌+◌, ◌*◌, ◌/◌, ◌%◌, ◌^◌, ◌≤◌, ◌<◌, ◌≡◌, refl, Bool, true, false, cond, List, [], ◌∷◌, ◌++◌, length, take, drop}
+use Rattle.std.specs.Prelude.{ℕ, ◌+◌, ◌*◌, ◌/◌, ◌%◌, ◌^◌, ◌≤◌, ◌≡◌, refl, Bool, true, false, List, [], ◌∷◌, ◌++◌, length, take, drop}
 use Rattle.std.proofs.Common.{sym, ◌∙◌, ap, ap₂, arith, mod-lt, shr_lt, pow_pos, length-append, take-append-drop}
 use Rattle.std.proofs.Math.Pow as Pow
 use Rattle.std.proofs.Math.Pow.{split}
@@ -7,9 +7,9 @@ use Rattle.std.proofs.Math.Seq.{drop-append_seam}
 use Rattle.parts.specs.Numbers.{byte_at, num2}
 use Rattle.labels.specs.Blocks.{block, block_lt}
 use Rattle.labels.specs.Labels.{label_bytes, num8, label_in}
-use Rattle.laying.specs.Places.{Stands, stands_end, first, second, byte, part, stands_none, stands_append, stands_more, Small}
+use Rattle.laying.specs.Places.{stands_end, first, second, byte, part, stands_none, stands_append, stands_more, Small}
 use Rattle.laying.specs.Places.{small_none, small_more, small_append, small_at}
-use Rattle.laying.specs.Numbers.{two, four, eight, sixteen, label, Written}
+use Rattle.laying.specs.Numbers.{two, eight, label, Written}
 
 one : Written 1 (λ n. n ∷ []) byte_at
 one = record {

@@ -1,14 +1,6 @@
 -- Numbers of several bytes, high byte first (01, opening and "Evidence"): written, and read where they stand. For any width.
-use Rattle.std.specs.Prelude.{ℕ, ◌+◌, ◌*◌, ◌/◌, ◌%◌, ◌^◌, ◌≤◌, ◌<◌, ◌≡◌, refl, Bool, true, false, cond, List, [], ◌∷◌, ◌++◌, length, take, drop}
-use Rattle.std.proofs.Common.{sym, ◌∙◌, ap, ap₂, arith, mod-lt, shr_lt, pow_pos, length-append, take-append-drop}
-use Rattle.std.proofs.Math.Pow as Pow
-use Rattle.std.proofs.Math.Pow.{split}
-use Rattle.std.proofs.Math.Seq.{drop-append_seam}
-use Rattle.parts.specs.Numbers.{byte_at, num2}
-use Rattle.labels.specs.Blocks.{block, block_lt}
-use Rattle.labels.specs.Labels.{label_bytes, num8, label_in}
-use Rattle.laying.specs.Places.{Stands, stands_end, first, second, byte, part, stands_none, stands_append, stands_more, Small}
-use Rattle.laying.specs.Places.{small_none, small_more, small_append, small_at}
+use Rattle.std.specs.Prelude.{ℕ, ◌+◌, ◌*◌, ◌/◌, ◌%◌, ◌^◌, ◌≤◌, ◌<◌, ◌≡◌, Bool, cond, List, [], ◌∷◌, ◌++◌, length}
+use Rattle.laying.specs.Places.{Stands, Small}
 
 abbrev pub two : ℕ → List ℕ
 two n = n / 256 ∷ n % 256 ∷ []

@@ -15,17 +15,6 @@ pub fn has_room(room: usize, at: usize, n: usize) -> bool
     at <= room - n
 }
 
-// A number of two bytes at a place, high byte first. What does not fit is left out as a whole.
-pub fn put2(buf: &mut [u8], at: usize, m: u16)
-    ensures { buf.new ≡ laid_in buf.old at (two m) }
-{
-    if !has_room(buf.len(), at, 2) {
-        return;
-    }
-    buf[at] = (m / 256) as u8;
-    buf[at + 1] = (m % 256) as u8;
-}
-
 // All of `src` at a place. What does not fit is left out as a whole.
 pub fn copy_bytes(buf: &mut [u8], at: usize, src: &[u8])
     ensures { buf.new ≡ laid_in buf.old at src.now }
@@ -33,9 +22,12 @@ pub fn copy_bytes(buf: &mut [u8], at: usize, src: &[u8])
     if !has_room(buf.len(), at, src.len()) {
         return;
     }
-    let mut i = 0;
-    while i < src.len() {
-        buf[at + i] = src[i];
-        i += 1;
-    }
+    buf[at..at + src.len()].copy_from_slice(src);
+}
+
+// A number of two bytes at a place, high byte first. It too is left out as a whole.
+pub fn put2(buf: &mut [u8], at: usize, m: u16)
+    ensures { buf.new ≡ laid_in buf.old at (two m) }
+{
+    copy_bytes(buf, at, &m.to_be_bytes());
 }

@@ -9,11 +9,11 @@ use Rattle.logic.specs.Sets.{has, narrow, within, set_of}
 use Rattle.logic.specs.SetLaws.{has_set_of, within↔, no_member}
 use Rattle.parts.specs.Numbers.{byte_at, num2}
 use Rattle.labels.specs.Labels.{wide, name_bytes}
-use Rattle.description.specs.Descriptions.{Description, is_name, entry_from, entry_of_fields}
+use Rattle.description.specs.Descriptions.{Description, Entry, top, name, both, every, at_least, is_name, entry_of_fields}
 use Rattle.tables.specs.Tables.{fields_at, describe}
 use Rattle.roles.specs.Disjoint.{records_by, compatible_by, compatible_all}
-use Rattle.tables.specs.Concepts.{fields_struct}
-use Rattle.tables.specs.declared.Fields as Code
+use Rattle.tables.specs.Concepts.{concept_of}
+use Rattle.tables.specs.declared.Concept.TheVariants.{Name}
 use Rattle.interpretation.specs.Meaning.{Interpretation}
 use Rattle.lines.specs.Lines.{wide_names, name_size, name_at, line_length, elements, names_at, line_test, most_elements, name_set}
 use Rattle.words.specs.Words.{within_set_of}
@@ -70,21 +70,22 @@ pub row_bit : (s : List ℕ) (at d x y r row : ℕ) {b : Bool} → row ≡ at + 
 row_bit s at d x y r row e f = f ∙ ap (λ n. has (num2 s n) r) (let z : row + 2 * y ≡ at + 2 * (x * d + y) = omega arith in z)
 
 -- ---- laws for 23
--- a name is told by its kind
-pub name_kind : (cs : List ℕ) (e : ℕ) (f : Code.Fields) → f ≡ fields_struct cs e → eqb f.kind 1 ≡ name_entry cs e
-unfolding entry_from
-name_kind cs e f q = rw q (kind (byte_at cs (6 * e)) _ _ _ _)
-  where
-    kind : (k r a b n : ℕ) → eqb k 1 ≡ is_name (entry_from k r a b n)
-    kind zero r a b n = refl
-    kind (suc zero) r a b n = refl
-    kind (suc (suc zero)) r a b n = refl
-    kind (suc (suc (suc zero))) r a b n = refl
-    kind (suc (suc (suc (suc k)))) r a b n = ne_eqb (suc (suc (suc (suc k)))) 1 (λ q. omega arith)
+-- a name is told by its concept
+pub name_told : (k : Entry) → concept_of k ≡ Name → true ≡ is_name k
+unfolding concept_of
+name_told top e = cc
+name_told name e = refl
+name_told (both a b) e = cc
+name_told (every r l) e = cc
+name_told (at_least r l n) e = cc
 
-pub size_read : (broad : Bool) (s : List ℕ) (d at : ℕ) → d ≡ elements s → at ≡ name_at (name_bytes broad) d
-    → (leb 1 d && (leb d most_elements && eqb (length s) (at + 2 * (d * d)))) ≡ size_test broad s
-size_read broad s d at e q = rw (q, e) refl
+pub name_not : (k : Entry) → (concept_of k ≡ Name → ⊥) → false ≡ is_name k
+unfolding concept_of
+name_not top h = refl
+name_not name h = absurd (h refl)
+name_not (both a b) h = refl
+name_not (every r l) h = refl
+name_not (at_least r l n) h = refl
 
 -- rows of d, one after another
 all_append : (a b : ℕ) (p : ℕ → Bool) → all_below (a + b) p ≡ (all_below a p && all_below b (λ i. p (a + i)))

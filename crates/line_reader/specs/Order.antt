@@ -1,5 +1,5 @@
 -- The answers in their order: those of the description, then 23, then the reading.
-use Rattle.std.specs.Prelude.{ℕ, ◌*◌, ◌/◌, ◌+◌, ◌≤◌, ◌<◌, ◌≡◌, Bool, true, false, cond, ◌&&◌, List, [], ◌∷◌, length}
+use Rattle.std.specs.Prelude.{ℕ, ◌*◌, ◌/◌, ◌+◌, ◌≤◌, ◌<◌, ◌≡◌, Bool, true, false, cond, ◌&&◌, List, [], ◌∷◌, length, Err}
 use Rattle.std.proofs.Math.Path.{refl}
 use Rattle.std.proofs.Common.{sym, ◌∙◌, ap, ap₂, arith}
 use Rattle.std.proofs.Math.Option.{Option, none, some}
@@ -14,9 +14,10 @@ use Rattle.description.specs.Acceptance.{Accepted}
 use Rattle.tables.specs.Tables.{records_in, describe}
 use Rattle.roles.specs.Disjoint.{compatible_by}
 use Rattle.roles.specs.Records.{MasksOf, masks_compatible}
-use Rattle.answers.specs.declared.Tested.TheVariants.{Fine, Refused}
-use Rattle.answers.specs.declared.Reading as Readings
-use Rattle.answers.specs.Answers.{Answer, Word, HOLDS, FAILS, REFUSED, answer, refusal_of, wholly, of_reading}
+use Rattle.answers.specs.declared.Reason.TheVariants.{LineForm}
+use Rattle.answers.specs.declared.Refusal as Refusals
+use Rattle.answers.specs.Reasons.{refused}
+use Rattle.answers.specs.Answers.{Answer, Word, HOLDS, FAILS, REFUSED, answer, numbered, wholly, of_reading}
 use Rattle.directory.specs.Directory.{roles_part, concepts_part, query_part, disjoint_part}
 use Rattle.intake.specs.Intake.{AcceptedParts, parts_accepted, bytes_test}
 use Rattle.intake.specs.Opening.{wholly_none, parts_fine}
@@ -89,7 +90,7 @@ module _ (rs cs qs : List ℕ) (p : Option (List ℕ)) (s : List ℕ) where
   pub line_fits : line_test (describe rs cs qs p) s ≡ true → (1 ≤ elements s) × (elements s ≤ most_elements)
   line_fits h = let o = (line↔ (describe rs cs qs p) s).0 h in (o.some_element, o.few_elements)
 
-  pub line_refused : line_test (describe rs cs qs p) s ≡ false → of_reading (Readings.TheVariants.Refused 23 0) ≡ line_answer rs cs qs p s
+  pub line_refused : line_test (describe rs cs qs p) s ≡ false → of_reading (Err (refused LineForm 0)) ≡ line_answer rs cs qs p s
   unfolding line_answer
   line_refused e = rw e refl
 
@@ -105,11 +106,11 @@ first_stops w x none later q = absurd (let z : ◌≡◌ {A = ℕ} 0 1 = cc in o
 first_stops w x (some m) later q = ap (answer w) q
 
 module _ (d s : List ℕ) where
-  pub read_refused : (n r : ℕ) → refusal_of (Refused n r) ≡ wholly (bytes_test d) → of_reading (Readings.TheVariants.Refused n r) ≡ read_answer d s
+  pub read_refused : (r : Refusals.Refusal) → some (numbered r) ≡ wholly (bytes_test d) → of_reading (Err r) ≡ read_answer d s
   unfolding read_answer read_refusal
-  read_refused n r e = first_stops _ _ (bytes_test d) _ e
+  read_refused r e = first_stops _ _ (bytes_test d) _ e
 
-  module _ (e : refusal_of Fine ≡ wholly (bytes_test d)) (rs cs qs : List ℕ) (k : rs ≡ roles_part d) (q : cs ≡ concepts_part d) (r : qs ≡ query_part d) where
+  module _ (e : none ≡ wholly (bytes_test d)) (rs cs qs : List ℕ) (k : rs ≡ roles_part d) (q : cs ≡ concepts_part d) (r : qs ≡ query_part d) where
     fine : bytes_test d ≡ none
     fine = sym (wholly_none (bytes_test d) e)
 

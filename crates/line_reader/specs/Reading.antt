@@ -1,5 +1,5 @@
 -- The direct reading of a line (01, "The written line"): refusals 1 to 8 and 26, then 23; else HOLDS exactly if it is a model with the root.
-use Rattle.std.specs.Prelude.{ℕ, ◌≡◌, refl, ◌↔◌, Bool, true, false, cond, List, [], ◌∷◌}
+use Rattle.std.specs.Prelude.{ℕ, ◌≡◌, refl, ◌↔◌, Bool, true, false, cond, List, [], ◌∷◌, Result, Ok}
 use Rattle.std.proofs.Common.{sym, ap, arith}
 use Rattle.std.proofs.lemmas.Bool.{false≢true}
 use Rattle.std.proofs.Math.Option.{Option, none, some, none-ne-some}
@@ -11,6 +11,7 @@ use Rattle.interpretation.specs.Meaning.{Interpretation}
 use Rattle.interpretation.specs.Models.{Model, Satisfies}
 use Rattle.interpretation.specs.Reading.{reads, reads↔}
 use Rattle.answers.specs.declared.Reading.{Reading}
+use Rattle.answers.specs.declared.Refusal as Refusals
 use Rattle.answers.specs.declared.Reading.TheVariants.{Holds, Fails}
 use Rattle.answers.specs.Answers as Case
 use Rattle.answers.specs.Answers.{of_reading, case_when, Answer, HOLDS, FAILS, answer}
@@ -77,10 +78,10 @@ fails↔ d s = (
     w = fails_said _ (read_refusal d s)
 
 -- ---- so for what read_interpretation answers
-pub holds_when : (d s : List ℕ) (r : Reading) → of_reading r ≡ read_answer d s → (r ≡ Holds)
+pub holds_when : (d s : List ℕ) (r : Result Reading Refusals.Refusal) → of_reading r ≡ read_answer d s → (r ≡ Ok Holds)
     ↔ (AcceptedBytes d × (LineOk (described d) s × (Model (described d) (read_as d s) × Satisfies (described d) ((described d).root ∷ []) (read_as d s))))
 holds_when d s r e = case_when (of_reading r) (read_answer d s) (answer HOLDS none) e (Case.holds↔ r) (holds↔ d s)
 
-pub fails_when : (d s : List ℕ) (r : Reading) → of_reading r ≡ read_answer d s → (r ≡ Fails)
+pub fails_when : (d s : List ℕ) (r : Result Reading Refusals.Refusal) → of_reading r ≡ read_answer d s → (r ≡ Ok Fails)
     ↔ (AcceptedBytes d × (LineOk (described d) s × ((Model (described d) (read_as d s) × Satisfies (described d) ((described d).root ∷ []) (read_as d s)) → ⊥)))
 fails_when d s r e = case_when (of_reading r) (read_answer d s) (answer FAILS none) e (Case.fails↔ r) (fails↔ d s)

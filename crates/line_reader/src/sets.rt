@@ -1,5 +1,5 @@
 // Sets of elements, in one word.
-ghost use Rattle.std.specs.Prelude.{◌≡◌, ◌<◌, ◌≤◌};
+ghost use Rattle.std.specs.Prelude.{◌≡◌, ◌≤◌};
 ghost use Rattle.logic.specs.Sums.{count_below};
 ghost use Rattle.logic.specs.Sets.{has};
 ghost use Rattle.lines.specs.Lines.{most_elements};
@@ -7,28 +7,20 @@ ghost use Rattle.words.specs.Words.{all_of};
 
 use lines::MOST_ELEMENTS;
 
-// Whether the set holds `i`.
-pub(crate) fn has64(x: u64, i: usize) -> bool
-    requires { i < most_elements }
-    ensures { result ≡ has x i }
-{
-    (x >> i) % 2 == 1
-}
-
 // The set of the first `d` numbers.
-pub(crate) fn full_set(d: usize) -> u64
+pub(crate) fn full_set(d: u8) -> u64
     requires { d ≤ most_elements }
     ensures { result ≡ all_of d }
 {
-    if d < MOST_ELEMENTS {
+    if (d as usize) < MOST_ELEMENTS {
         (1 << d) - 1
     } else {
-        18446744073709551615
+        u64::MAX
     }
 }
 
 // How many of the first `d` numbers the set holds.
-pub(crate) fn set_size(x: u64, d: usize) -> usize
+pub(crate) fn set_size(x: u64, d: u8) -> usize
     requires { d ≤ most_elements }
     ensures { result ≡ count_below d (has x) }
 {

@@ -1,1 +1,2 @@
 pub mod WriteOrder
+pub mod Pasting

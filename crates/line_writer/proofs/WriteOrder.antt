@@ -1,21 +1,18 @@
 -- What is laid, and the answer, are those of the writer.
-use Rattle.std.specs.Prelude.{ℕ, ◌*◌, ◌%◌, ◌≤◌, ◌<◌, ◌≡◌, refl, List, ◌++◌, leb, length, drop}
+use Rattle.std.specs.Prelude.{ℕ, ◌≡◌, refl, List, ◌++◌, leb, length, drop, Result, Err}
 use Rattle.std.proofs.Math.Path.{sym}
-use Rattle.std.proofs.Common.{◌∙◌, ap, subst, arith, mul-le-mul, mul-le-mul_right, one-mul, mod-eq_of_lt, le-leb}
+use Rattle.std.proofs.Common.{◌∙◌, ap}
 use Rattle.std.proofs.Math.Option.{Option, none, some}
-use Rattle.std.proofs.lemmas.Bool.{lt-leb}
 use Rattle.logic.specs.Lists.{length_tabulate}
-use Rattle.logic.specs.Tests.{so_leb, and_l}
-use Rattle.logic.specs.Refusals.{Refusal, unless, unless↔, refuse, refuse↔, refuse_some, first_of}
-use Rattle.labels.specs.Labels.{name_bytes}
+use Rattle.logic.specs.Tests.{so_leb}
+use Rattle.logic.specs.Refusals.{Refusal, unless↔, refuse, refuse_some, first_of}
 use Rattle.evidence.specs.declared.Layout.{Layout}
-use Rattle.evidence.specs.Evidence.{record_count, head_test, head↔, layout_of, graph_in, graph_size}
+use Rattle.evidence.specs.Evidence.{record_count, layout_of, graph_in, graph_size}
 use Rattle.copies.specs.Copying.{copies_in}
 use Rattle.copies.proofs.Copying.{copies_are}
 use Rattle.lines.specs.Lines.{name_size, line_length, most_elements, line_bytes}
-use Rattle.answers.specs.declared.Written.{Written}
-use Rattle.answers.specs.declared.Written.TheVariants.{Line, Refused}
-use Rattle.answers.specs.Answers.{answer, WRITTEN, wholly, of_written, length_of, unless_refused, buffered}
+use Rattle.answers.specs.declared.Refusal as Refusals
+use Rattle.answers.specs.Answers.{answer, numbered, WRITTEN, wholly, of_written, length_of, unless_refused, buffered}
 use Rattle.description.specs.Descriptions.{Description, wanted}
 use Rattle.tables.specs.Tables.{records_in, describe}
 use Rattle.roles.specs.Ancestors.{role_count}
@@ -23,15 +20,14 @@ use Rattle.roles.specs.Records.{MasksOf}
 use Rattle.directory.specs.Directory.{roles_part, concepts_part, query_part, disjoint_part}
 use Rattle.intake.specs.Intake.{parts_test, parts_accepted, bytes_test, described}
 use Rattle.intake.specs.Opening.{wholly_none, parts_fine}
-use Rattle.nodes.specs.NodeSteps.{root_set}
 use Rattle.evidence.proofs.InPlace.{edges_behind, edges_few}
 use Rattle.graph.specs.Line.{copies, line}
-use Rattle.graph_check.specs.GraphEvidence.{graph_head, graph_tests, graph_refused, GraphKept, kept↔}
-use Rattle.graph_check.specs.GraphSteps.{layout_in, graph_code}
+use Rattle.graph_check.specs.GraphEvidence.{graph_tests, graph_refused, GraphKept, kept↔}
+use Rattle.graph_check.specs.GraphSteps.{layout_in}
 use Rattle.graph_check.proofs.GraphJoin.{sample_is}
 use Rattle.line_writer.specs.Writing.{room_test, write_refused, write_answer, write_length, buffer_after}
 use Rattle.line_writer.specs.WriteSteps.{transitives_in}
-use Rattle.line_writer.specs.WriteBytes.{LaidLine, laid_line}
+use Rattle.line_writer.specs.WriteBytes.{laid_line}
 use Rattle.line_writer.specs.WriteOrder.{size_in, After, room_in, ToldOf, OpenedTold, Told}
 
 -- ---- for an accepted description it is the answer of the writer
@@ -40,7 +36,7 @@ abbrev graph_length : Description → List ℕ → ℕ
 graph_length D s = line_length (name_size D) (line D (graph_in (layout_of D) s)).size
 
 -- the answer, its length, and every byte of the buffer, after the refusals o
-record Wrote (D : Description) (s old new : List ℕ) (r : Written) (o : Option Refusal) : Type 0 where
+record Wrote (D : Description) (s old new : List ℕ) (r : Result ℕ Refusals.Refusal) (o : Option Refusal) : Type 0 where
   pub says : of_written r ≡ answer WRITTEN o
   pub long : length_of r ≡ unless_refused 0 (graph_length D s) o
   pub buffer : new ≡ buffered (line_bytes D (line D (graph_in (layout_of D) s))) old o
@@ -70,7 +66,7 @@ module _ (rs cs qs : List ℕ) (p : Option (List ℕ)) (a s old : List ℕ) (mas
     size_is : size_in f s ≡ (line D (graph_in f s)).size
     size_is = rw (copies_is, graph_size f s) refl
 
-    line_wrote : (new : List ℕ) (r : Written) → ToldOf (transitives_in a (role_count rs)) cs s a old new r → Wrote D s old new r (refuse 0 room none)
+    line_wrote : (new : List ℕ) (r : Result ℕ Refusals.Refusal) → ToldOf (transitives_in a (role_count rs)) cs s a old new r → Wrote D s old new r (refuse 0 room none)
     line_wrote new r T = record {
       says = T.says ∙ ap (λ n. answer WRITTEN (refuse 0 (room_test n (line_length (name_size D) n) (length old)) none)) size_is;
       long = T.long
@@ -91,7 +87,7 @@ module _ (rs cs qs : List ℕ) (p : Option (List ℕ)) (a s old : List ℕ) (mas
             (rw (size_is, copies_is) at L)
         filled (some n) e L = L
 
-  opened_wrote : (new : List ℕ) (r : Written) → OpenedTold a (role_count rs) cs qs s old new r
+  opened_wrote : (new : List ℕ) (r : Result ℕ Refusals.Refusal) → OpenedTold a (role_count rs) cs qs s old new r
       → Wrote D s old new r (first_of (graph_tests D (wanted D) s) (refuse 0 room none))
   opened_wrote new r T = go (graph_tests D (wanted D) s) refl (rw (sample_is rs cs qs p a s masks fine) at T)
     where
@@ -104,14 +100,14 @@ module _ (rs cs qs : List ℕ) (p : Option (List ℕ)) (a s old : List ℕ) (mas
 -- ---- 1 to 8 and 26, then the opened description
 module _ (d s old : List ℕ) where
   -- the public promise, in one
-  abbrev pub Writes : List ℕ → Written → Type 0
+  abbrev pub Writes : List ℕ → Result ℕ Refusals.Refusal → Type 0
   Writes new r = (of_written r ≡ write_answer d s (length old)) × ((length_of r ≡ write_length d s (length old)) × (new ≡ buffer_after d s old))
 
-  pub write_refused_lem : (n i : ℕ) → some (record { number = n; place = i }) ≡ wholly (bytes_test d) → Writes old (Refused n i)
+  pub write_refused_lem : (r : Refusals.Refusal) → some (numbered r) ≡ wholly (bytes_test d) → Writes old (Err r)
   unfolding write_refused graph_refused
-  write_refused_lem n i e = rw (refuse_some 0 (bytes_test d) (graph_tests (described d) (wanted (described d)) s) _ (sym e)) (refl, (refl, refl))
+  write_refused_lem r e = rw (refuse_some 0 (bytes_test d) (graph_tests (described d) (wanted (described d)) s) _ (sym e)) (refl, (refl, refl))
 
-  pub write_opened : (a : List ℕ) (m : ℕ) (cs qs new : List ℕ) (r : Written) → none ≡ wholly (bytes_test d)
+  pub write_opened : (a : List ℕ) (m : ℕ) (cs qs new : List ℕ) (r : Result ℕ Refusals.Refusal) → none ≡ wholly (bytes_test d)
       → MasksOf (roles_part d) (records_in (disjoint_part d)) a
       → m ≡ role_count (roles_part d) → cs ≡ concepts_part d → qs ≡ query_part d → OpenedTold a m cs qs s old new r → Writes new r
   unfolding write_refused graph_refused

@@ -1,37 +1,26 @@
 -- The writer's answers in their order: 1 to 8 and 26, 9 to 15 of the graph, then 21, then 22, then the line.
-use Rattle.std.specs.Prelude.{ℕ, ◌*◌, ◌%◌, ◌≤◌, ◌<◌, ◌≡◌, refl, List, ◌++◌, leb, length, drop}
+use Rattle.std.specs.Prelude.{ℕ, ◌*◌, ◌≤◌, ◌<◌, ◌≡◌, refl, List, length, Result, Ok, Err}
 use Rattle.std.proofs.Math.Path.{sym}
-use Rattle.std.proofs.Common.{◌∙◌, ap, subst, arith, mul-le-mul, mul-le-mul_right, one-mul, mod-eq_of_lt, le-leb}
+use Rattle.std.proofs.Common.{◌∙◌, ap, subst, arith, mul-le-mul, mul-le-mul_right, one-mul, le-leb}
 use Rattle.std.proofs.Math.Option.{Option, none, some}
 use Rattle.std.proofs.lemmas.Bool.{lt-leb}
-use Rattle.logic.specs.Lists.{length_tabulate}
-use Rattle.logic.specs.Tests.{so_leb, and_l}
-use Rattle.logic.specs.Refusals.{Refusal, unless, unless↔, refuse, refuse↔, refuse_some, first_of}
+use Rattle.logic.specs.Tests.{and_l}
+use Rattle.logic.specs.Refusals.{Refusal, unless, unless↔, refuse, refuse↔, first_of}
 use Rattle.labels.specs.Labels.{name_bytes}
 use Rattle.evidence.specs.declared.Layout.{Layout}
-use Rattle.evidence.specs.Evidence.{record_count, head_test, head↔, layout_of, graph_in, graph_size}
+use Rattle.evidence.specs.Evidence.{record_count, head_test, head↔}
 use Rattle.copies.specs.Copying.{copies_in}
-use Rattle.copies.proofs.Copying.{copies_are}
-use Rattle.lines.specs.Lines.{name_size, line_length, most_elements, line_bytes}
-use Rattle.answers.specs.declared.Written.{Written}
-use Rattle.answers.specs.declared.Written.TheVariants.{Line, Refused}
-use Rattle.answers.specs.Answers.{answer, WRITTEN, wholly, of_written, length_of, unless_refused, buffered}
-use Rattle.description.specs.Descriptions.{Description, wanted}
-use Rattle.tables.specs.Tables.{records_in, describe}
-use Rattle.roles.specs.Ancestors.{role_count}
-use Rattle.roles.specs.Records.{MasksOf}
-use Rattle.directory.specs.Directory.{roles_part, concepts_part, query_part, disjoint_part}
-use Rattle.intake.specs.Intake.{parts_test, parts_accepted, bytes_test, described}
-use Rattle.intake.specs.Opening.{wholly_none, parts_fine}
+use Rattle.lines.specs.Lines.{line_length, most_elements}
+use Rattle.answers.specs.declared.Reason.TheVariants.{Big, Short}
+use Rattle.answers.specs.declared.Refusal as Refusals
+use Rattle.answers.specs.Reasons.{refused}
+use Rattle.answers.specs.Answers.{answer, numbered, WRITTEN, of_written, length_of, unless_refused}
 use Rattle.nodes.specs.NodeSteps.{root_set}
-use Rattle.evidence.proofs.InPlace.{edges_behind, edges_few}
-use Rattle.graph.specs.Line.{copies, line}
-use Rattle.graph_check.specs.GraphEvidence.{graph_head, graph_tests, graph_refused, GraphKept, kept↔}
+use Rattle.graph_check.specs.GraphEvidence.{graph_head}
 use Rattle.graph_check.specs.GraphSteps.{layout_in, graph_code}
-use Rattle.graph_check.proofs.GraphJoin.{sample_is}
-use Rattle.line_writer.specs.Writing.{room_test, write_refused, write_answer, write_length, buffer_after}
+use Rattle.line_writer.specs.Writing.{room_test}
 use Rattle.line_writer.specs.WriteSteps.{transitives_in}
-use Rattle.line_writer.specs.WriteBytes.{LaidLine, laid_line}
+use Rattle.line_writer.specs.WriteBytes.{LaidLine}
 
 -- the number of elements, and the length of their line, by the evidence
 abbrev pub size_in : Layout → List ℕ → ℕ
@@ -46,7 +35,7 @@ After t cs f s a old new none = LaidLine t cs f s a (copies_in f s (record_count
 After t cs f s a old new (some z) = new ≡ old
 
 -- the answer, its length, and the buffer, after the refusals o
-pub record Told (t : ℕ) (cs : List ℕ) (f : Layout) (s a old new : List ℕ) (r : Written) (o : Option Refusal) : Type 0 where
+pub record Told (t : ℕ) (cs : List ℕ) (f : Layout) (s a old new : List ℕ) (r : Result ℕ Refusals.Refusal) (o : Option Refusal) : Type 0 where
   pub says : of_written r ≡ answer WRITTEN o
   pub long : length_of r ≡ unless_refused 0 (length_in f (size_in f s)) o
   pub after : After t cs f s a old new o
@@ -71,41 +60,41 @@ pub copies_few : (n k size : ℕ) → 1 ≤ n → size ≡ n * k → k ≤ size
 copies_few n k size h e = omega (arith, mul-le-mul_right k h, one-mul k)
 
 module _ (t : ℕ) (cs : List ℕ) (f : Layout) (s a old : List ℕ) (size : ℕ) (e : size ≡ size_in f s) where
-  pub too_big : most_elements < size → Told t cs f s a old old (Refused 21 0) (room_in f s (length old))
+  pub too_big : most_elements < size → Told t cs f s a old old (Err (refused Big 0)) (room_in f s (length old))
   too_big h = let z : most_elements < size_in f s = omega arith in rw (lt-leb _ _ z) (record { says = refl; long = refl; after = refl })
 
-  pub too_short_lem : size ≤ most_elements → length old < length_in f size → Told t cs f s a old old (Refused 22 0) (room_in f s (length old))
+  pub too_short_lem : size ≤ most_elements → length old < length_in f size → Told t cs f s a old old (Err (refused Short 0)) (room_in f s (length old))
   too_short_lem h g = let z : size_in f s ≤ most_elements = omega arith in let y : length old < length_in f (size_in f s) = rw e at g in
       rw (le-leb _ _ z, lt-leb _ _ y) (record { says = refl; long = refl; after = refl })
 
-  pub laid_out : (new : List ℕ) (n k len : ℕ) → n ≡ record_count s → k ≡ copies_in f s n → k < 256 → len ≡ length_in f size
+  pub laid_out : (new : List ℕ) (n k len : ℕ) → n ≡ record_count s → k ≡ copies_in f s n → len ≡ length_in f size
       → size ≤ most_elements → len ≤ length old
-      → LaidLine t cs f s a (k % 256) (size % 256) old new → Told t cs f s a old new (Line len) (room_in f s (length old))
-  laid_out new n k len p q few r h g L = let z : size_in f s ≤ most_elements = omega arith in
+      → LaidLine t cs f s a k size old new → Told t cs f s a old new (Ok len) (room_in f s (length old))
+  laid_out new n k len p q r h g L = let z : size_in f s ≤ most_elements = omega arith in
       let y : length_in f (size_in f s) ≤ length old = rw (r, e) at g in
-      let u : k % 256 ≡ copies_in f s (record_count s) = mod-eq_of_lt few ∙ q ∙ ap (copies_in f s) p in
-      let v : size % 256 ≡ size_in f s = mod-eq_of_lt (let w : size < 256 = omega arith in w) ∙ e in
-      rw (le-leb _ _ z, le-leb _ _ y) (record { says = refl; long = r ∙ ap (length_in f) e; after = rw (u, v) at L })
+      let u : k ≡ copies_in f s (record_count s) = q ∙ ap (copies_in f s) p in
+      rw (le-leb _ _ z, le-leb _ _ y) (record { says = refl; long = r ∙ ap (length_in f) e; after = rw (u, e) at L })
 
 -- of evidence that is stored as for the part cs
-abbrev pub ToldOf : ℕ → List ℕ → List ℕ → List ℕ → List ℕ → List ℕ → Written → Type 0
+abbrev pub ToldOf : ℕ → List ℕ → List ℕ → List ℕ → List ℕ → List ℕ → Result ℕ Refusals.Refusal → Type 0
 ToldOf t cs s a old new r = Told t cs (layout_in cs) s a old new r (room_in (layout_in cs) s (length old))
 
-pub told_of : (t : ℕ) (cs : List ℕ) (f : Layout) (s a old new : List ℕ) (r : Written) → f ≡ layout_in cs
+pub told_of : (t : ℕ) (cs : List ℕ) (f : Layout) (s a old new : List ℕ) (r : Result ℕ Refusals.Refusal) → f ≡ layout_in cs
     → Told t cs f s a old new r (room_in f s (length old)) → ToldOf t cs s a old new r
 told_of t cs f s a old new r e T = subst (λ g. Told t cs g s a old new r (room_in g s (length old))) e T
 
 -- ---- an opened description: 9 to 15 of the graph, then those, by the masks a of m roles
-abbrev pub OpenedTold : List ℕ → ℕ → List ℕ → List ℕ → List ℕ → List ℕ → List ℕ → Written → Type 0
+abbrev pub OpenedTold : List ℕ → ℕ → List ℕ → List ℕ → List ℕ → List ℕ → List ℕ → Result ℕ Refusals.Refusal → Type 0
 OpenedTold a m cs qs s old new r = Told (transitives_in a m) cs (layout_in cs) s a old new r
     (first_of (graph_code a m cs qs (root_set qs) s) (room_in (layout_in cs) s (length old)))
 
 module _ (a : List ℕ) (m : ℕ) (cs qs s old : List ℕ) where
-  pub graph_stops : (n i : ℕ) → some (record { number = n; place = i }) ≡ graph_code a m cs qs (root_set qs) s → OpenedTold a m cs qs s old old (Refused n i)
-  graph_stops n i e = rw (← e) (record { says = refl; long = refl; after = refl })
+  pub graph_stops : (r : Refusals.Refusal) → some (numbered r) ≡ graph_code a m cs qs (root_set qs) s
+      → OpenedTold a m cs qs s old old (Err r)
+  graph_stops r e = rw (← e) (record { says = refl; long = refl; after = refl })
 
-  pub graph_on : none ≡ graph_code a m cs qs (root_set qs) s → (t : ℕ) (new : List ℕ) (r : Written) → t ≡ transitives_in a m
-      → ToldOf t cs s a old new r → OpenedTold a m cs qs s old new r
+  pub graph_on : none ≡ graph_code a m cs qs (root_set qs) s → (t : ℕ) (new : List ℕ) (r : Result ℕ Refusals.Refusal)
+      → t ≡ transitives_in a m → ToldOf t cs s a old new r → OpenedTold a m cs qs s old new r
   graph_on e t new r p T = rw (← e, ← p) T
 
   pub some_record : none ≡ graph_code a m cs qs (root_set qs) s → 1 ≤ record_count s

@@ -1,6 +1,6 @@
 -- The bytes that the code writes, place by place: from the evidence, before the roles are closed.
 use Rattle.std.specs.Prelude.{ℕ, zero, suc, ◌+◌, ◌*◌, ◌/◌, ◌%◌, ◌^◌, ◌≤◌, ◌<◌, ◌≡◌, refl, Bool, cond, ◌&&◌, List, eqb, ltb, length, get_or}
-use Rattle.std.proofs.Common.{◌∙◌, ap, subst, arith, mul-le-mul_left, mul-le-mul_right, suc-mul, zero-mul, mod-eq_of_lt, add-one, ne_eqb, lt-ltb, le-ltb, pow_mono}
+use Rattle.std.proofs.Common.{◌∙◌, ap, subst, arith, mul-le-mul_left, mul-le-mul_right, suc-mul, zero-mul, add-one, ne_eqb, lt-ltb, le-ltb, pow_mono}
 use Rattle.lines.proofs.LineLaws.{pair_row, pair_column, name_room}
 use Rattle.std.proofs.Math.Decide.{dec_lt}
 use Rattle.logic.specs.Sets.{has, set_of}
@@ -105,9 +105,8 @@ names_done cs N e n x p h g q = let b = set_of_lt e (name_in cs N) in let z : e 
       | no l ↦ (let z : most_entries ≤ length cs / 6 = omega arith in rw (le-ltb _ _ z) (omega arith, omega arith))
     ]
 
-pub transitives_done : (a : List ℕ) (m r n x : ℕ) → n ≡ up_to 16 m → n ≤ 16 → r ≤ n → n ≤ r → x ≡ set_of r (λ r. has (get_or a (16 + r) 0) r)
-    → x % 65536 ≡ transitives_in a m
+pub transitives_done : (a : List ℕ) (m r n x : ℕ) → n ≡ up_to 16 m → r ≤ n → n ≤ r → x ≡ set_of r (λ r. has (get_or a (16 + r) 0) r)
+    → x ≡ transitives_in a m
 unfolding transitives_in
-transitives_done a m r n x p few h g q = let z : r ≡ up_to 16 m = (let y : r ≡ n = omega arith in y ∙ p) in
-    let b = set_of_lt r (λ r. has (get_or a (16 + r) 0) r) in let w : 2 ^ r ≤ 2 ^ 16 = pow_mono (let y : r ≤ 16 = omega arith in y) in
-    mod-eq_of_lt (omega arith) ∙ q ∙ ap (λ k. set_of k (λ r. has (get_or a (16 + r) 0) r)) z
+transitives_done a m r n x p h g q = let z : r ≡ up_to 16 m = (let y : r ≡ n = omega arith in y ∙ p) in
+    q ∙ ap (λ k. set_of k (λ r. has (get_or a (16 + r) 0) r)) z

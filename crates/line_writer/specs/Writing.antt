@@ -1,5 +1,5 @@
 -- The line writer (01, "The written line"; FORMAT 7, 8): what it refuses, what it answers, and all bytes of the buffer afterwards.
-use Rattle.std.specs.Prelude.{ℕ, ◌≤◌, ◌≡◌, refl, ◌↔◌, List, leb, length}
+use Rattle.std.specs.Prelude.{ℕ, ◌≤◌, ◌≡◌, refl, ◌↔◌, List, leb, length, Result, Ok}
 use Rattle.std.proofs.Math.Option.{Option, none}
 use Rattle.std.proofs.Common.{arith}
 use Rattle.logic.specs.Tests.{reading}
@@ -12,8 +12,7 @@ use Rattle.intake.specs.Intake.{described, AcceptedBytes}
 use Rattle.evidence.specs.Evidence.{layout_of, graph_in}
 use Rattle.graph_check.specs.GraphEvidence.{graph_refused, GraphKept}
 use Rattle.graph_check.proofs.GraphEvidence.{not_refused↔}
-use Rattle.answers.specs.declared.Written.{Written}
-use Rattle.answers.specs.declared.Written.TheVariants.{Line}
+use Rattle.answers.specs.declared.Refusal as Refusals
 use Rattle.answers.specs.Answers as Case
 use Rattle.answers.specs.Answers.{of_written, length_of, case_when, Answer, answer, WRITTEN, told↔, unless_refused, buffered}
 
@@ -55,6 +54,6 @@ written↔ d s n = let w = told↔ WRITTEN WRITTEN (write_refused d s n) (λ e. 
     room↔ = simp (first↔, not_refused↔, refuse↔, unless↔, reading) (λ t. (t.0, (t.1.0.0, t.1.0.1.0)), λ t. (t.0, ((t.1.0, (t.1.1, refl)), refl)))
 
 -- so for what write_interpretation answers
-pub written_when : (d s : List ℕ) (n : ℕ) (w : Written) → of_written w ≡ write_answer d s n → (w ≡ Line (length_of w))
+pub written_when : (d s : List ℕ) (n : ℕ) (w : Result ℕ Refusals.Refusal) → of_written w ≡ write_answer d s n → (w ≡ Ok (length_of w))
     ↔ ((AcceptedBytes d × GraphKept (described d) (wanted (described d)) s) × (((line_of d s).size ≤ most_elements) × (line_size d s ≤ n)))
 written_when d s n w e = case_when (of_written w) (write_answer d s n) (answer WRITTEN none) e (Case.written↔ w) (written↔ d s n)

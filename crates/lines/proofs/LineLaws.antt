@@ -13,7 +13,7 @@ use Rattle.logic.specs.Sets.{has, set_of}
 use Rattle.logic.specs.SetLaws.{set_of_lt, has_set_of, set_of↔}
 use Rattle.parts.specs.Numbers.{byte_at, num2}
 use Rattle.labels.specs.Labels.{most_entries, wide, name_bytes, mask_wide, mask_narrow}
-use Rattle.description.specs.Descriptions.{Description, name, is_name}
+use Rattle.description.specs.Descriptions.{Description, is_name}
 use Rattle.interpretation.specs.Meaning.{Interpretation}
 use Rattle.lines.specs.Lines.{wide_names, name_size, name_at, pair_at, line_length, elements, names_at, line_in, LineOk, most_elements}
 use Rattle.lines.specs.Lines.{name_mask, role_mask, byte_of, pair_byte, line_byte, line_bytes}

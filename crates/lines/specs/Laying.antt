@@ -1,11 +1,7 @@
 -- Numbers of w bytes laid in a buffer, one after another: what each loop of a writer keeps. For any width w.
-use Rattle.std.specs.Prelude.{ℕ, suc, ◌+◌, ◌-◌, ◌*◌, ◌/◌, ◌%◌, ◌^◌, ◌≤◌, ◌<◌, ◌≡◌, refl, ◌⊎◌, Bool, List, length, set}
-use Rattle.std.proofs.Common.{sym, ◌∙◌, ap, ap₂, inl, inr, arith, mul-le-mul_left, mul-suc, mul-add, div-one, pow-suc, length-set, get_or-set_same, get_or-set_other}
-use Rattle.std.proofs.Math.Decide.{dec_lt}
-use Rattle.std.proofs.Math.Nat.{div-div-eq-div-mul}
+use Rattle.std.specs.Prelude.{ℕ, ◌+◌, ◌*◌, ◌≤◌, ◌<◌, ◌≡◌, ◌⊎◌, Bool, List, length}
 use Rattle.parts.specs.Numbers.{byte_at, num2}
 use Rattle.labels.specs.Labels.{name_bytes, names_in}
-use Rattle.lines.specs.Lines.{byte_of}
 
 -- the first n numbers at `at`, as `read` reads them, are those of g, and all other bytes are as in `old`
 pub record Laid (w : ℕ) (read : List ℕ → ℕ → ℕ) (at : ℕ) (g : ℕ → ℕ) (old : List ℕ) (n : ℕ) (new : List ℕ) : Type 0 where

@@ -1,18 +1,7 @@
 -- Numbers of w bytes, high byte first, where they stand: read from their bytes, and each byte had from them. From width w comes 2 * w.
-use Prim.Native.Nat.{ℕ, zero, suc, ◌+◌, ◌-◌, ◌*◌, ◌/◌, ◌%◌, ◌^◌, ◌≤◌, ◌<◌}
-use Rattle.std.specs.Prelude.{◌≡◌, refl, Bool, true, false, List}
-use Rattle.std.proofs.Common.{sym, ◌∙◌, ap₂, arith, add-zero, mod-lt, mod-eq_of_lt, div-one, mul-suc, mul-le-mul_right, suc-mul, pow-suc, pow-add, pow_pos, shr_lt, shr-shr}
-use Rattle.std.proofs.Math.Path.{ap}
-use Rattle.std.proofs.Math.Decide.{dec_lt}
-use Rattle.std.proofs.Math.Dec.{eqb}
-use Rattle.std.proofs.Math.Pow as Pow
-use Rattle.std.proofs.Math.Pow.{split, field, mod-mod-pow}
-use Rattle.logic.specs.Tests.{so_false}
-use Rattle.logic.specs.Sets.{has}
-use Rattle.logic.specs.SetLaws.{has_lt}
-use Rattle.parts.specs.Numbers.{byte_at, num2}
-use Rattle.labels.specs.Blocks.{block, has_low}
-use Rattle.labels.specs.Labels.{name_bytes, names_in}
+use Prim.Native.Nat.{ℕ, ◌+◌, ◌*◌, ◌^◌, ◌≤◌, ◌<◌}
+use Rattle.std.specs.Prelude.{◌≡◌, List}
+use Rattle.parts.specs.Numbers.{byte_at}
 use Rattle.lines.specs.Lines.{byte_of}
 
 -- all elements are bytes

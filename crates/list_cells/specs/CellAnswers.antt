@@ -1,7 +1,8 @@
 -- The answer for a cell by what the rows give it, and test 18 of the cell by that answer.
-use Rattle.std.specs.Prelude.{ℕ, ◌+◌, ◌≤◌, ◌<◌, ◌≡◌, Bool, not, ◌&&◌, ◌||◌, List, ltb, set}
+use Rattle.std.specs.Prelude as Rust
+use Rattle.std.specs.Prelude.{Some, None, Result, Ok, Err, ℕ, ◌+◌, ◌≤◌, ◌<◌, ◌≡◌, Bool, not, ◌&&◌, ◌||◌, List, ltb, set}
 use Rattle.std.proofs.Math.Path.{refl, fun_ext}
-use Rattle.std.proofs.Common.{sym, ◌∙◌, ap, ap₂, lt-ltb}
+use Rattle.std.proofs.Common.{sym, ◌∙◌, ap₂, lt-ltb}
 use Rattle.std.proofs.Math.Bool.{true, false, cond}
 use Rattle.std.proofs.lemmas.Bool.{false≢true}
 use Rattle.std.proofs.Math.Option.{Option, none, some}
@@ -13,18 +14,14 @@ use Rattle.logic.specs.SetLaws.{has_lt, set_ext, set_of↔}
 use Rattle.parts.specs.Numbers.{byte_at}
 use Rattle.labels.specs.Labels.{value_of}
 use Rattle.labels.specs.declared.Label.{Label}
-use Rattle.description.specs.Literals.{code}
-use Rattle.tables.specs.declared.Fields as Code
 use Rattle.refutation.specs.Records.{unshown, cited, barred}
 use Rattle.refutation.specs.RecordTests.{Answer, by_roles, knows, cell_fits}
 use Rattle.roles.specs.Disjoint.{compatible_by}
 use Rattle.list_form.specs.ListForm.{cell_of, is_mark}
 use Rattle.cell_walk.specs.Walks.{roles_in}
-use Rattle.rows.specs.declared.Row as Held
 use Rattle.cell_labels.specs.CellRows.{gathered_by}
 use Rattle.list_cells.specs.CellSteps.{answer_with}
-use Rattle.list_cells.specs.declared.CellAnswer.{CellAnswer}
-use Rattle.list_cells.specs.declared.CellAnswer.TheVariants.{Barred, Knows}
+use Rattle.list_cells.specs.declared.Walk.{Walk}
 
 -- what is gathered of a cell (`gatheredBy` of cell_labels) where its rows tell its roles by `above`
 abbrev pub gathered : List ℕ → List ℕ → List Label → List ℕ → ℕ → ℕ
@@ -34,14 +31,19 @@ gathered above own shown against c = gathered_by (roles_in above c) own shown ag
 abbrev pub answer_by : List ℕ → ℕ → List ℕ → List Label → List ℕ → ℕ → Answer
 answer_by a r own shown against c = answer_with (compatible_by a r) (gathered_by (has r) own shown against c)
 
-abbrev pub answer_of : CellAnswer → Answer
-answer_of Barred = by_roles
-answer_of (Knows x) = knows (value_of x)
+abbrev pub answer_of : Rust.Option Label → Answer
+answer_of None = by_roles
+answer_of (Some x) = knows (value_of x)
 
 -- the byte that each asks of its cell: 254 if its roles bar it; of another cell the byte is 255 or a cite
-abbrev pub mark_of : CellAnswer → Option ℕ
-mark_of Barred = some 254
-mark_of (Knows x) = none
+abbrev pub mark_of : Rust.Option Label → Option ℕ
+mark_of None = some 254
+mark_of (Some x) = none
+
+-- where a walk ended, at a cell that is not fine or behind the last
+abbrev pub ended : Result Walk Walk → Walk
+ended (Ok w) = w
+ended (Err w) = w
 
 -- test 18 of cell c of the step ds, by the answer that the arrays give; the byte of cell 1 stands behind the k row literals
 abbrev pub gathered_on : Bool → List ℕ → (ℕ → ℕ) → List ℕ → List ℕ → List Label → List ℕ → List ℕ → ℕ → ℕ → Bool
@@ -91,11 +93,11 @@ module _ (marks : Bool) (num : ℕ → ℕ) (b : ℕ) (o : Bool) (m : o ≡ is_m
       go false true h = absurd (false≢true (sym h))
       go false false h = refl
 
-  module _ (e : o ≡ false) (x : CellAnswer) (A : Answer) (q : answer_of x ≡ A) where
-    pub by_none : x ≡ Barred → false ≡ cell_fits num A (cell_of marks b)
+  module _ (e : o ≡ false) (x : Rust.Option Label) (A : Answer) (q : answer_of x ≡ A) where
+    pub by_none : x ≡ None → false ≡ cell_fits num A (cell_of marks b)
     unfolding cell_fits
     by_none h = rw (cites e, ← q, h) refl
 
-    pub by_cite : (y : Label) (N : ℕ) → x ≡ Knows y → N ≡ num b → within N (value_of y) ≡ cell_fits num A (cell_of marks b)
+    pub by_cite : (y : Label) (N : ℕ) → x ≡ Some y → N ≡ num b → within N (value_of y) ≡ cell_fits num A (cell_of marks b)
     unfolding cell_fits
     by_cite y N h p = rw (cites e, ← q, h, p) refl

@@ -1,6 +1,7 @@
 -- Bytes that have the form of a record are a step that has it (refusal 10), within the limits of stored refutations.
 use Prim.Native.Nat.{ℕ, zero, suc, ◌+◌, ◌-◌, ◌^◌, ◌≤◌}
-use Rattle.std.specs.Prelude.{◌≡◌, Bool, true, false, cond, ◌&&◌, List, eqb, length}
+use Rattle.std.specs.Prelude as Rust
+use Rattle.std.specs.Prelude.{Some, None, ◌≡◌, Bool, true, false, cond, ◌&&◌, List, eqb, length}
 use Rattle.std.proofs.Math.Path.{refl, subst}
 use Rattle.std.proofs.Math.Option.{Option, none, some, some-injective, none-ne-some}
 use Rattle.std.proofs.Common.{arith}
@@ -15,7 +16,7 @@ use Rattle.description.specs.Literals.{literal}
 use Rattle.refutation.specs.Records.{Counting, Step, counting}
 use Rattle.refutation.specs.RecordTests.{stored_refutation, form_test, record_form, when_counting}
 use Rattle.list_form.specs.declared.Node.{Node}
-use Rattle.list_form.specs.declared.Node.TheVariants.{Leaf, Split, Off}
+use Rattle.list_form.specs.declared.Node.TheVariants.{Leaf, Split}
 use Rattle.list_form.specs.ListForm.{Placed, and_then, given, bytes_at, node_in, by_node, leaf_in, tree_in, most_depth, cell_of, tree_at, counting_in, sized, step_of, step_in}
 
 -- a tree that was read has a multiplier for each bound at every leaf, and no more splits than allowed
@@ -32,10 +33,10 @@ module _ (ds : List ℕ) where
   unfolding tree_in formed depth
   tree_fine zero limits at t e = go (node_in ds limits at) e
     where
-      go : (x : Node) → by_node (leaf_in ds limits at) none x ≡ some t → Fine zero limits t
-      go (Leaf end) q = leaf_fine zero limits at end t q
-      go Split q = absurd (none-ne-some t q)
-      go Off q = absurd (none-ne-some t q)
+      go : (x : Rust.Option Node) → by_node (leaf_in ds limits at) none x ≡ some t → Fine zero limits t
+      go (Some (Leaf end)) q = leaf_fine zero limits at end t q
+      go (Some Split) q = absurd (none-ne-some t q)
+      go None q = absurd (none-ne-some t q)
   tree_fine (suc left) limits at t e = go (tree_fine left (suc limits)) (node_in ds limits at) e
     where
       made : Placed → Placed → Placed
@@ -58,12 +59,12 @@ module _ (ds : List ℕ) where
       first ih none h q = absurd (none-ne-some t q)
       first ih (some l) h q = second ih l (ih (at + 4) l h) (tree_in ds left (suc limits) l.end) refl q
 
-      go : Below → (x : Node)
+      go : Below → (x : Rust.Option Node)
           → by_node (leaf_in ds limits at) (and_then (tree_in ds left (suc limits) (at + 4)) (λ l. and_then (tree_in ds left (suc limits) l.end) (λ r. some (made l r)))) x ≡ some t
           → Fine (suc left) limits t
-      go ih (Leaf end) q = leaf_fine (suc left) limits at end t q
-      go ih Split q = first ih (tree_in ds left (suc limits) (at + 4)) refl q
-      go ih Off q = absurd (none-ne-some t q)
+      go ih (Some (Leaf end)) q = leaf_fine (suc left) limits at end t q
+      go ih (Some Split) q = first ih (tree_in ds left (suc limits) (at + 4)) refl q
+      go ih None q = absurd (none-ne-some t q)
 
 -- ---- 10 on bytes is 10 of the step
 module _ (marks : Bool) (ds : List ℕ) where

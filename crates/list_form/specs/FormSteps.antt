@@ -1,10 +1,12 @@
 -- The form of a record as the code finds it: where each tree ends, without the tree.
 use Prim.Native.Nat.{ℕ, zero, suc, ◌+◌, ◌-◌, ◌*◌, ◌%◌, ◌^◌, ◌≤◌, ◌<◌}
-use Rattle.std.specs.Prelude.{◌≡◌, Bool, true, false, cond, ◌&&◌, ◌||◌, List, leb, ltb}
+use Rattle.std.specs.Prelude as Rust
+use Rattle.std.specs.Prelude.{Some, None, ◌≡◌, Bool, true, false, cond, ◌&&◌, ◌||◌, List, leb, ltb}
 use Rattle.std.proofs.Math.Path.{refl, ap}
 use Rattle.std.proofs.Common.{sym, ◌∙◌, inl, inr, pow_mono, pow_pos}
 use Rattle.std.proofs.lemmas.Bool.{false≢true}
-use Rattle.std.proofs.Math.Option.{Option, none, some, none-ne-some}
+use Rattle.std.proofs.lemmas.Option.{none-some, same_Some}
+use Rattle.std.proofs.Math.Option.{Option, none, some, some-injective, none-ne-some}
 use native.Mathlib.Omega.{arith}
 use Rattle.std.proofs.Math.Decide.{dec_lt}
 use borrow.Author.Tests.{le-leb, lt-leb, lt-ltb, le-ltb, eq-eqb, ne_eqb}
@@ -19,12 +21,12 @@ use Rattle.parts.specs.Numbers.{byte_at, num2}
 use Rattle.list_form.specs.ListForm.{Placed, is_mark, node_in, node_refusal, is_node, by_node, leaf_in, tree_in, and_then, given, tree_at, most_depth, counting_in, sized, step_of, step_in}
 use Rattle.refutation.specs.Records.{Step}
 use Rattle.list_form.specs.declared.Node.{Node}
-use Rattle.list_form.specs.declared.Node.TheVariants.{Leaf, Split, Off}
+use Rattle.list_form.specs.declared.Node.TheVariants.{Leaf, Split}
 
--- the end of what is placed; 0, where nothing ends, if there is none
-abbrev pub end_of : Option Placed → ℕ
-end_of none = 0
-end_of (some t) = t.end
+-- the end of what is placed, if there is something
+abbrev pub end_of : Option Placed → Rust.Option ℕ
+end_of none = None
+end_of (some t) = Some t.end
 
 -- there is something
 abbrev pub formed : {A : Type 0} → Option A → Bool
@@ -59,41 +61,41 @@ mark_from marks first b h e = rw e (go marks)
 
 -- ---- laws for the reader of a node
 -- its case has the number of the case
-pub node_told : (ds : List ℕ) (limits at : ℕ) (x : Node) → x ≡ node_in ds limits at → (x ≡ node_in ds limits at) × (node_refusal x ≡ unless (is_node (node_in ds limits at)) 10 none)
+pub node_told : (ds : List ℕ) (limits at : ℕ) (x : Rust.Option Node) → x ≡ node_in ds limits at → (x ≡ node_in ds limits at) × (node_refusal x ≡ unless (is_node (node_in ds limits at)) 10 none)
 node_told ds limits at x e = (e, ap node_refusal e ∙ go (node_in ds limits at))
   where
-    go : (x : Node) → node_refusal x ≡ unless (is_node x) 10 none
-    go (Leaf end) = refl
-    go Split = refl
-    go Off = refl
+    go : (x : Rust.Option Node) → node_refusal x ≡ unless (is_node x) 10 none
+    go (Some (Leaf end)) = refl
+    go (Some Split) = refl
+    go None = refl
 
-pub node_past : (ds : List ℕ) (limits at : ℕ) → length ds ≤ at → Off ≡ node_in ds limits at
+pub node_past : (ds : List ℕ) (limits at : ℕ) → length ds ≤ at → None ≡ node_in ds limits at
 unfolding node_in
 node_past ds limits at h = let z : length ds < at + 4 = omega arith in rw (le-ltb _ _ h, lt-leb _ _ z) refl
 
 module _ (ds : List ℕ) (limits at tag : ℕ) (p : tag ≡ byte_at ds at) (h : at < length ds) where
-  pub node_leaf : tag ≡ 0 → at + 1 + limits ≤ length ds → Leaf (at + 1 + limits) ≡ node_in ds limits at
+  pub node_leaf : tag ≡ 0 → at + 1 + limits ≤ length ds → Some (Leaf (at + 1 + limits)) ≡ node_in ds limits at
   unfolding node_in
   node_leaf e k = rw (← p, lt-ltb _ _ h, eq-eqb _ _ e, le-leb _ _ k) refl
 
-  pub node_cut : tag ≡ 0 → length ds < at + 1 + limits → Off ≡ node_in ds limits at
+  pub node_cut : tag ≡ 0 → length ds < at + 1 + limits → None ≡ node_in ds limits at
   unfolding node_in
   node_cut e k = rw (← p, lt-ltb _ _ h, eq-eqb _ _ e, lt-leb _ _ k) refl
 
-  pub node_split : (tag ≡ 0 → ⊥) → (leb (at + 4) (length ds) && eqb tag 1) ≡ true → Split ≡ node_in ds limits at
+  pub node_split : (tag ≡ 0 → ⊥) → (leb (at + 4) (length ds) && eqb tag 1) ≡ true → Some Split ≡ node_in ds limits at
   unfolding node_in
   node_split e q = rw (← p, lt-ltb _ _ h, ne_eqb _ _ e, q) refl
 
-  pub node_off : (tag ≡ 0 → ⊥) → (leb (at + 4) (length ds) && eqb tag 1) ≡ false → Off ≡ node_in ds limits at
+  pub node_off : (tag ≡ 0 → ⊥) → (leb (at + 4) (length ds) && eqb tag 1) ≡ false → None ≡ node_in ds limits at
   unfolding node_in
   node_off e q = rw (← p, lt-ltb _ _ h, ne_eqb _ _ e, q) refl
 
 -- a leaf has its tag and its multipliers
-pub leaf_room : (ds : List ℕ) (limits at end : ℕ) → Leaf end ≡ node_in ds limits at → (end ≡ at + 1 + limits) × (end ≤ length ds)
+pub leaf_room : (ds : List ℕ) (limits at end : ℕ) → Some (Leaf end) ≡ node_in ds limits at → (end ≡ at + 1 + limits) × (end ≤ length ds)
 unfolding node_in
 leaf_room ds limits at end e = go (ltb at (length ds) && eqb (byte_at ds at) 0) (leb (at + 1 + limits) (length ds)) refl (leb (at + 4) (length ds) && eqb (byte_at ds at) 1) e
   where
-    go : (a b : Bool) → leb (at + 1 + limits) (length ds) ≡ b → (c : Bool) → Leaf end ≡ cond a (cond b (Leaf (at + 1 + limits)) Off) (cond c Split Off)
+    go : (a b : Bool) → leb (at + 1 + limits) (length ds) ≡ b → (c : Bool) → Some (Leaf end) ≡ cond a (cond b (Some (Leaf (at + 1 + limits))) None) (cond c (Some Split) None)
         → (end ≡ at + 1 + limits) × (end ≤ length ds)
     go true true h c q = let z : end ≡ at + 1 + limits = cc in (z, omega (arith, so_leb (at + 1 + limits) (length ds) h))
     go true false h c q = absurd (let z : ◌≡◌ {A = ℕ} 0 1 = cc in omega arith)
@@ -101,11 +103,11 @@ leaf_room ds limits at end e = go (ltb at (length ds) && eqb (byte_at ds at) 0) 
     go false b h false q = absurd (let z : ◌≡◌ {A = ℕ} 0 1 = cc in omega arith)
 
 -- a split has its four bytes
-pub split_room : (ds : List ℕ) (limits at : ℕ) → Split ≡ node_in ds limits at → at + 4 ≤ length ds
+pub split_room : (ds : List ℕ) (limits at : ℕ) → Some Split ≡ node_in ds limits at → at + 4 ≤ length ds
 unfolding node_in
 split_room ds limits at e = go (ltb at (length ds) && eqb (byte_at ds at) 0) (leb (at + 1 + limits) (length ds)) (leb (at + 4) (length ds)) refl (eqb (byte_at ds at) 1) e
   where
-    go : (a b c : Bool) → leb (at + 4) (length ds) ≡ c → (d : Bool) → Split ≡ cond a (cond b (Leaf (at + 1 + limits)) Off) (cond (c && d) Split Off) → at + 4 ≤ length ds
+    go : (a b c : Bool) → leb (at + 4) (length ds) ≡ c → (d : Bool) → Some Split ≡ cond a (cond b (Some (Leaf (at + 1 + limits))) None) (cond (c && d) (Some Split) None) → at + 4 ≤ length ds
     go false b true h true q = so_leb (at + 4) (length ds) h
     go false b true h false q = absurd (let z : ◌≡◌ {A = ℕ} 0 1 = cc in omega arith)
     go false b false h d q = absurd (let z : ◌≡◌ {A = ℕ} 0 1 = cc in omega arith)
@@ -115,32 +117,32 @@ split_room ds limits at e = go (ltb at (length ds) && eqb (byte_at ds at) 0) (le
 -- ---- laws for the recursion
 module _ (ds : List ℕ) (limits at : ℕ) where
   -- by the node that stands there
-  pub tree_off : (left : ℕ) → Off ≡ node_in ds limits at → 0 ≡ end_of (tree_in ds left limits at)
+  pub tree_off : (left : ℕ) → None ≡ node_in ds limits at → None ≡ end_of (tree_in ds left limits at)
   unfolding tree_in
   tree_off zero e = rw (← e) refl
   tree_off (suc left) e = rw (← e) refl
 
-  pub tree_leaf : (left end : ℕ) → Leaf end ≡ node_in ds limits at → end ≡ end_of (tree_in ds left limits at)
+  pub tree_leaf : (left end : ℕ) → Some (Leaf end) ≡ node_in ds limits at → Some end ≡ end_of (tree_in ds left limits at)
   unfolding tree_in
   tree_leaf zero end e = rw (← e) refl
   tree_leaf (suc left) end e = rw (← e) refl
 
-  pub tree_deep : (left : ℕ) → left ≡ 0 → Split ≡ node_in ds limits at → 0 ≡ end_of (tree_in ds left limits at)
+  pub tree_deep : (left : ℕ) → left ≡ 0 → Some Split ≡ node_in ds limits at → None ≡ end_of (tree_in ds left limits at)
   unfolding tree_in
   tree_deep left z e = rw (z, ← e) refl
 
 -- no tree ends at 0
-leaf_past : (ds : List ℕ) (limits at end : ℕ) (t : Placed) → Leaf end ≡ node_in ds limits at → leaf_in ds limits at end ≡ some t → 0 < t.end
-leaf_past ds limits at end t x e = let z : end ≡ t.end = ap end_of e in omega (arith, z, (leaf_room ds limits at end x).0)
+leaf_past : (ds : List ℕ) (limits at end : ℕ) (t : Placed) → Some (Leaf end) ≡ node_in ds limits at → leaf_in ds limits at end ≡ some t → 0 < t.end
+leaf_past ds limits at end t x e = let z : end ≡ t.end = ap (λ (x : Placed). x.end) (some-injective _ _ e) in omega (arith, z, (leaf_room ds limits at end x).0)
 
 pub tree_past : (ds : List ℕ) (left limits at : ℕ) (t : Placed) → tree_in ds left limits at ≡ some t → 0 < t.end
 unfolding tree_in
 tree_past ds zero limits at t e = go (node_in ds limits at) refl e
   where
-    go : (x : Node) → x ≡ node_in ds limits at → by_node (leaf_in ds limits at) none x ≡ some t → 0 < t.end
-    go (Leaf end) h q = leaf_past ds limits at end t h q
-    go Split h q = absurd (none-ne-some t q)
-    go Off h q = absurd (none-ne-some t q)
+    go : (x : Rust.Option Node) → x ≡ node_in ds limits at → by_node (leaf_in ds limits at) none x ≡ some t → 0 < t.end
+    go (Some (Leaf end)) h q = leaf_past ds limits at end t h q
+    go (Some Split) h q = absurd (none-ne-some t q)
+    go None h q = absurd (none-ne-some t q)
 tree_past ds (suc left) limits at t e = go (tree_past ds left (suc limits)) (node_in ds limits at) refl e
   where
     made : Placed → Placed → Placed
@@ -151,26 +153,26 @@ tree_past ds (suc left) limits at t e = go (tree_past ds left (suc limits)) (nod
 
     second : Below → (l : Placed) (o : Option Placed) → tree_in ds left (suc limits) l.end ≡ o → and_then o (λ r. some (made l r)) ≡ some t → 0 < t.end
     second ih l none h q = absurd (none-ne-some t q)
-    second ih l (some r) h q = let z : r.end ≡ t.end = ap end_of q in omega (arith, z, ih l.end r h)
+    second ih l (some r) h q = let z : r.end ≡ t.end = ap (λ (x : Placed). x.end) (some-injective _ _ q) in omega (arith, z, ih l.end r h)
 
     first : Below → (o : Option Placed) → and_then o (λ l. and_then (tree_in ds left (suc limits) l.end) (λ r. some (made l r))) ≡ some t → 0 < t.end
     first ih none q = absurd (none-ne-some t q)
     first ih (some l) q = second ih l (tree_in ds left (suc limits) l.end) refl q
 
-    go : Below → (x : Node) → x ≡ node_in ds limits at
+    go : Below → (x : Rust.Option Node) → x ≡ node_in ds limits at
         → by_node (leaf_in ds limits at) (and_then (tree_in ds left (suc limits) (at + 4)) (λ l. and_then (tree_in ds left (suc limits) l.end) (λ r. some (made l r)))) x ≡ some t → 0 < t.end
-    go ih (Leaf end) h q = leaf_past ds limits at end t h q
-    go ih Split h q = first ih (tree_in ds left (suc limits) (at + 4)) q
-    go ih Off h q = absurd (none-ne-some t q)
+    go ih (Some (Leaf end)) h q = leaf_past ds limits at end t h q
+    go ih (Some Split) h q = first ih (tree_in ds left (suc limits) (at + 4)) q
+    go ih None h q = absurd (none-ne-some t q)
 
 -- what an end says
-end_none : (o : Option Placed) → ((t : Placed) → o ≡ some t → 0 < t.end) → 0 ≡ end_of o → o ≡ none
-end_none none h e = refl
-end_none (some t) h e = absurd (let p = h t refl in omega (arith, p, e))
+end_none : (o : Option Placed) → None ≡ end_of o → o ≡ none
+end_none none e = refl
+end_none (some t) e = absurd (none-some _ e)
 
-end_some : (o : Option Placed) (p : ℕ) → (p ≡ 0 → ⊥) → p ≡ end_of o → (t : Placed) × (o ≡ some t) × (t.end ≡ p)
-end_some none p h e = absurd (h e)
-end_some (some t) p h e = (t, refl, sym e)
+end_some : (o : Option Placed) (p : ℕ) → Some p ≡ end_of o → (t : Placed) × (o ≡ some t) × (t.end ≡ p)
+end_some none p e = absurd (none-some p (sym e))
+end_some (some t) p e = (t, refl, same_Some _ _ (sym e))
 
 -- a second tree's end is the whole's
 second_end : (o : Option Placed) (f : Placed → Tree) → end_of o ≡ end_of (and_then o (λ r. some (record { tree = f r; end = r.end })))
@@ -179,19 +181,19 @@ second_end (some r) f = refl
 
 module _ (ds : List ℕ) (limits at : ℕ) where
   -- a split: its first tree, and then its second
-  pub tree_first : (left p : ℕ) → Split ≡ node_in ds limits at → (left ≡ 0 → ⊥) → p ≡ 0 → p ≡ end_of (tree_in ds (left - 1) (limits + 1) (at + 4))
-      → 0 ≡ end_of (tree_in ds left limits at)
+  pub tree_first : (left : ℕ) → Some Split ≡ node_in ds limits at → (left ≡ 0 → ⊥) → None ≡ end_of (tree_in ds (left - 1) (limits + 1) (at + 4))
+      → None ≡ end_of (tree_in ds left limits at)
   unfolding tree_in
-  tree_first zero p e h w q = absurd (h refl)
-  tree_first (suc l) p e h w q = let z : suc l - 1 ≡ l = omega arith in
-      rw (← e, end_none (tree_in ds l (suc limits) (at + 4)) (tree_past ds l (suc limits) (at + 4)) (sym w ∙ (rw (z, add-one limits) at q))) refl
+  tree_first zero e h q = absurd (h refl)
+  tree_first (suc l) e h q = let z : suc l - 1 ≡ l = omega arith in
+      rw (← e, end_none (tree_in ds l (suc limits) (at + 4)) (rw (z, add-one limits) at q)) refl
 
-  pub tree_second : (left p r : ℕ) → Split ≡ node_in ds limits at → (left ≡ 0 → ⊥) → (p ≡ 0 → ⊥) → p ≡ end_of (tree_in ds (left - 1) (limits + 1) (at + 4))
+  pub tree_second : (left p : ℕ) (r : Rust.Option ℕ) → Some Split ≡ node_in ds limits at → (left ≡ 0 → ⊥) → Some p ≡ end_of (tree_in ds (left - 1) (limits + 1) (at + 4))
       → r ≡ end_of (tree_in ds (left - 1) (limits + 1) p) → r ≡ end_of (tree_in ds left limits at)
   unfolding tree_in
-  tree_second zero p r e h w q s = absurd (h refl)
-  tree_second (suc l) p r e h w q s = let z : suc l - 1 ≡ l = omega arith in
-      let u = end_some (tree_in ds l (suc limits) (at + 4)) p w (rw (z, add-one limits) at q) in
+  tree_second zero p r e h q s = absurd (h refl)
+  tree_second (suc l) p r e h q s = let z : suc l - 1 ≡ l = omega arith in
+      let u = end_some (tree_in ds l (suc limits) (at + 4)) p (rw (z, add-one limits) at q) in
       (rw (z, add-one limits) at s) ∙ rw (← e, u.1, u.2) (second_end (tree_in ds l (suc limits) p) (λ x. split (byte_at ds (at + 1)) (num2 ds (at + 2)) u.0.tree x.tree))
 
 -- ---- laws for a counting step
@@ -212,15 +214,21 @@ module _ (marks : Bool) (ds : List ℕ) (k : ℕ) where
   unfolding counting_in
   cells_cut h g c = rw (le-leb _ _ h, le-leb _ _ g, lt-leb _ _ c) refl
 
-  pub tree_told : (start q : ℕ) → 1 ≤ k → k ≤ 6 → start ≡ tree_at k → start ≤ length ds → q ≡ end_of (tree_in ds most_depth k start)
+  pub tree_told : (start q : ℕ) → 1 ≤ k → k ≤ 6 → start ≡ tree_at k → start ≤ length ds → Some q ≡ end_of (tree_in ds most_depth k start)
       → eqb q (length ds) ≡ formed (counting_in marks ds k)
   unfolding counting_in
   tree_told start q h g s c e = let d : tree_at k ≤ length ds = omega arith in
-      rw (le-leb _ _ h, le-leb _ _ g, le-leb _ _ d) (ap (λ n. eqb n (length ds)) (e ∙ ap (λ at. end_of (tree_in ds most_depth k at)) s) ∙ go (tree_in ds most_depth k (tree_at k)) _)
+      rw (le-leb _ _ h, le-leb _ _ g, le-leb _ _ d) (go (tree_in ds most_depth k (tree_at k)) _ (e ∙ ap (λ at. end_of (tree_in ds most_depth k at)) s))
     where
-      go : (o : Option Placed) (f : Placed → Step) → eqb (end_of o) (length ds) ≡ formed (and_then o (λ t. given (eqb t.end (length ds)) (f t)))
-      go none f = ne_eqb 0 (length ds) (λ z. omega arith)
-      go (some t) f = given_formed (eqb t.end (length ds)) (f t)
+      go : (o : Option Placed) (f : Placed → Step) → Some q ≡ end_of o → eqb q (length ds) ≡ formed (and_then o (λ t. given (eqb t.end (length ds)) (f t)))
+      go none f x = absurd (none-some q (sym x))
+      go (some t) f x = ap (λ n. eqb n (length ds)) (same_Some _ _ x) ∙ given_formed (eqb t.end (length ds)) (f t)
+
+  pub tree_missing : (start : ℕ) → 1 ≤ k → k ≤ 6 → start ≡ tree_at k → start ≤ length ds → None ≡ end_of (tree_in ds most_depth k start)
+      → false ≡ formed (counting_in marks ds k)
+  unfolding counting_in
+  tree_missing start h g s c e = let d : tree_at k ≤ length ds = omega arith in
+      rw (le-leb _ _ h, le-leb _ _ g, le-leb _ _ d, end_none (tree_in ds most_depth k (tree_at k)) (e ∙ ap (λ at. end_of (tree_in ds most_depth k at)) s)) refl
 
 -- ---- laws for a step
 module _ (marks : Bool) (ds : List ℕ) where

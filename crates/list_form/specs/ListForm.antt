@@ -1,12 +1,13 @@
 -- A refutation's record behind its label: the step that the bytes are, and their form, refusal 10 (01, "Evidence", Closing list, and "The counting step"; FORMAT 5, 6).
-use Rattle.std.specs.Prelude.{ℕ, zero, suc, ◌+◌, ◌-◌, ◌^◌, Bool, true, false, cond, ◌&&◌, ◌||◌, List, eqb, leb, ltb, length}
+use Rattle.std.specs.Prelude as Rust
+use Rattle.std.specs.Prelude.{Some, None, ℕ, zero, suc, ◌+◌, ◌-◌, ◌^◌, Bool, true, false, cond, ◌&&◌, ◌||◌, List, eqb, leb, ltb, length}
 use Rattle.std.proofs.Math.Option.{Option, none, some}
 use Rattle.logic.specs.Lists.{tabulate}
 use Rattle.parts.specs.Numbers.{byte_at, num2}
 use Rattle.counting.specs.Trees.{Tree, leaf, split}
 use Rattle.description.specs.Literals.{literal}
 use Rattle.list_form.specs.declared.Node.{Node}
-use Rattle.list_form.specs.declared.Node.TheVariants.{Leaf, Split, Off}
+use Rattle.list_form.specs.declared.Node.TheVariants.{Leaf, Split}
 use Rattle.refutation.specs.Records.{Cell, unshown, cited, barred, Step, contradiction, conjunction, disjunction, by_rule, case_split, counting}
 
 -- what follows, where there is something
@@ -28,25 +29,25 @@ pub record Placed : Type 0 where
   pub end : ℕ
 
 -- what stands at a place: a leaf, 0 and then a multiplier for each of `limits` bounds on its way; a split, 1, a cell and a value; or neither
-unfoldable pub node_in : List ℕ → ℕ → ℕ → Node
-node_in ds limits at = cond (ltb at (length ds) && eqb (byte_at ds at) 0) (cond (leb (at + 1 + limits) (length ds)) (Leaf (at + 1 + limits)) Off)
-    (cond (leb (at + 4) (length ds) && eqb (byte_at ds at) 1) Split Off)
+unfoldable pub node_in : List ℕ → ℕ → ℕ → Rust.Option Node
+node_in ds limits at = cond (ltb at (length ds) && eqb (byte_at ds at) 0) (cond (leb (at + 1 + limits) (length ds)) (Some (Leaf (at + 1 + limits))) None)
+    (cond (leb (at + 4) (length ds) && eqb (byte_at ds at) 1) (Some Split) None)
 
 -- the paper's number of each case: where no node stands, the form is off
-abbrev pub node_refusal : Node → Option ℕ
-node_refusal (Leaf end) = none
-node_refusal Split = none
-node_refusal Off = some 10
+abbrev pub node_refusal : Rust.Option Node → Option ℕ
+node_refusal (Some (Leaf end)) = none
+node_refusal (Some Split) = none
+node_refusal None = some 10
 
-abbrev pub is_node : Node → Bool
-is_node (Leaf end) = true
-is_node Split = true
-is_node Off = false
+abbrev pub is_node : Rust.Option Node → Bool
+is_node (Some (Leaf end)) = true
+is_node (Some Split) = true
+is_node None = false
 
-abbrev pub by_node : {A : Type 0} → (ℕ → Option A) → Option A → Node → Option A
-by_node f g (Leaf end) = f end
-by_node f g Split = g
-by_node f g Off = none
+abbrev pub by_node : {A : Type 0} → (ℕ → Option A) → Option A → Rust.Option Node → Option A
+by_node f g (Some (Leaf end)) = f end
+by_node f g (Some Split) = g
+by_node f g None = none
 
 abbrev pub leaf_in : List ℕ → ℕ → ℕ → ℕ → Option Placed
 leaf_in ds limits at end = some (record { tree = leaf (bytes_at (λ b. b) ds (at + 1) limits); end = end })

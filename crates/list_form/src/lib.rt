@@ -9,53 +9,47 @@ ghost use Rattle.list_form.specs.FormSteps.{end_of, formed};
 
 use parts::byte;
 
-// What stands at a place of a tree: a leaf with the place where it ends, a split, or neither.
+// What stands at a place of a tree: a leaf with the place where it ends, or a split.
 #[derive(Clone, Copy)]
 pub enum Node {
     Leaf(usize),
     Split,
-    Off,
 }
 
-// The node at `at`; a leaf has a multiplier for each of `limits` bounds.
-pub fn read_node(ds: &[u8], limits: u8, at: usize) -> Node
+// The node at `at`, if one stands there; a leaf has a multiplier for each of `limits` bounds.
+pub fn read_node(ds: &[u8], limits: u8, at: usize) -> Option<Node>
     ensures { (result ≡ node_in ds.now limits at) × (node_refusal result ≡ unless (is_node (node_in ds.now limits at)) 10 none) }
 {
     if ds.len() <= at {
-        return Node::Off;
+        return None;
     }
     let tag = byte(ds, at);
     if tag == 0 {
         let end = at + 1 + (limits as usize);
         if ds.len() < end {
-            return Node::Off;
+            return None;
         }
-        return Node::Leaf(end);
+        return Some(Node::Leaf(end));
     }
     let split = (at + 4 <= ds.len()) & (tag == 1);
     if split {
-        return Node::Split;
+        return Some(Node::Split);
     }
-    Node::Off
+    None
 }
 
-// Where the tree at `at` ends, with at most `left` splits above a leaf, under `limits` bounds; 0 if it has not its form.
-fn tree_end(ds: &[u8], left: u8, limits: u8, at: usize) -> usize
+// Where the tree at `at` ends, with at most `left` splits above a leaf, under `limits` bounds, if it has its form.
+fn tree_end(ds: &[u8], left: u8, limits: u8, at: usize) -> Option<usize>
     requires { left + limits ≤ 14 }
     ensures { result ≡ end_of (tree_in ds.now left limits at) }
 {
-    let node = read_node(ds, limits, at);
-    match node {
-        Node::Off => 0,
-        Node::Leaf(end) => end,
+    match read_node(ds, limits, at)? {
+        Node::Leaf(end) => Some(end),
         Node::Split => {
             if left == 0 {
-                return 0;
+                return None;
             }
-            let next = tree_end(ds, left - 1, limits + 1, at + 4);
-            if next == 0 {
-                return 0;
-            }
+            let next = tree_end(ds, left - 1, limits + 1, at + 4)?;
             tree_end(ds, left - 1, limits + 1, next)
         }
     }
@@ -83,7 +77,10 @@ fn counting_form(ds: &[u8], k: u8) -> bool
     if ds.len() < start {
         return false;
     }
-    tree_end(ds, 8, k, start) == ds.len()
+    let Some(end) = tree_end(ds, 8, k, start) else {
+        return false;
+    };
+    end == ds.len()
 }
 
 // The first cell byte that is a mark: 254 where barred cells have one, else 255.

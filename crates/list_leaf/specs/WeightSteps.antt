@@ -1,9 +1,10 @@
 -- The loops that add the weights up: what they hold after one limit more.
-use Rattle.std.specs.Prelude.{ℕ, zero, suc, ◌+◌, ◌*◌, ◌≤◌, ◌<◌, ◌≡◌, ◌⊎◌, Bool, not, ◌||◌, List, eqb, get_or, set, replicate}
+use Rattle.std.specs.Prelude.{ℕ, zero, suc, ◌+◌, ◌*◌, ◌≤◌, ◌<◌, ◌≡◌, ◌⊎◌, Bool, cond, not, ◌||◌, List, eqb, ltb, length, get_or, set, replicate}
 use Rattle.std.proofs.Math.Path.{refl, sym}
 use Rattle.std.proofs.Common.{◌∙◌, ap, ap₂, inl, inr, arith, add-one, length-set, get_or-set_same, get_or-set_other}
 use Rattle.std.proofs.Math.Decide.{dec_lt}
-use borrow.Author.Tests.{le-leb, lt-leb, eq-eqb}
+use Rattle.std.proofs.Math.ListN.{get_or-eq_default}
+use borrow.Author.Tests.{le-leb, lt-leb, eq-eqb, lt-ltb, le-ltb}
 use Rattle.logic.specs.Tests.{So, decide, so_eqb}
 use Rattle.logic.specs.Bounded.{any_below}
 use Rattle.logic.specs.Sums.{sum_below, only, only_on, only_off, sum_zero}
@@ -42,6 +43,27 @@ module _ (way : List Limit) (ms : List ℕ) where
       most : (j : ℕ) → So (eqb j i) ⊎ (So (eqb j i) → ⊥) → get_or (set ps i v) j 0 ≤ 16711680
       most j (inl q) = let z : j ≡ i = so_eqb j i q in rw (z, same) b
       most j (inr q) = rw (other j (λ z. q (eq-eqb j i z))) (f.most j)
+
+  -- six parts, of which those from k on are 0
+  pub parts_made : (k : ℕ) (ps : List ℕ) → length ps ≡ 6 → ((i : ℕ) → i < 6 → (get_or ps i 0 ≡ cond (ltb i k) (part_at way ms i) 0) × (get_or ps i 0 ≤ 16711680))
+      → k ≤ 6 → RowParts way ms k ps
+  parts_made k ps s h few = record {
+    size = s;
+    at = λ i l. (h i (omega arith)).0 ∙ rw (lt-ltb i k l) refl;
+    none = λ i l. none i l (dec_lt i 6);
+    most = λ i. most i (dec_lt i 6);
+  }
+    where
+      past : (i : ℕ) → 6 ≤ i → get_or ps i 0 ≡ 0
+      past i l = let z : length ps ≤ i = omega arith in get_or-eq_default ps 0 z
+
+      none : (i : ℕ) → k ≤ i → Dec (i < 6) → get_or ps i 0 ≡ 0
+      none i l (yes q) = (h i q).0 ∙ rw (le-ltb i k l) refl
+      none i l (no q) = past i (omega arith)
+
+      most : (i : ℕ) → Dec (i < 6) → get_or ps i 0 ≤ 16711680
+      most i (yes q) = (h i q).1
+      most i (no q) = let z : 6 ≤ i = omega arith in rw (past i z) (omega arith)
 
   -- ---- the splits
   module _ (k : ℕ) where

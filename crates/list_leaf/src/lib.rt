@@ -11,6 +11,8 @@ ghost use Rattle.list_leaf.specs.Leaf.{open_byte, open_cell, few_enough, marked,
 ghost use Rattle.list_leaf.specs.Weights.{packed, RowParts, SplitSums, eight_of, unfair_at, unfair_block};
 ghost use Rattle.list_leaf.specs.Totals.{Priced, Totals};
 
+use rows::cell_count;
+use std::array;
 use tables::Side;
 
 // A limit on the way to a leaf: a row, or a half of a split of `cell`. The bound stands first, so that a limit has four bytes: each level of a tree holds 14.
@@ -19,14 +21,6 @@ pub struct Limit {
     pub bound: u16,
     pub side: Side,
     pub cell: u8,
-}
-
-// The number of cells of `i` rows, cell 0 too.
-fn cells_of(i: usize) -> usize
-    requires { i ≤ 6 }
-    ensures { (result ≡ 2 ^ i) × (result ≤ 64) }
-{
-    1 << i
 }
 
 // A leaf's gap: what the lower total has more than the upper, or less.
@@ -64,14 +58,7 @@ fn row_parts(way: [Limit; 14], k: usize, ms: &[u8]) -> [u32; 6]
     requires { (k ≤ 6) × (k ≤ length ms.now) }
     ensures { RowParts way ms.now k result }
 {
-    let mut ps: [u32; 6] = [0; 6];
-    let mut i: usize = 0;
-    while i < k {
-        let x = way[i];
-        ps[i] = part(x, ms[i]);
-        i += 1;
-    }
-    ps
+    array::from_fn(|i| if i < k { part(way[i], ms[i]) } else { 0 })
 }
 
 // Where the part of a split of `cell` is added: one past the cells counts at cell 0, which is cleared in the end.
@@ -86,14 +73,11 @@ fn split_sums(way: [Limit; 14], k: usize, ms: &[u8]) -> [u32; 64]
     requires { (k ≤ length ms.now) × (length ms.now ≤ 14) }
     ensures { SplitSums way ms.now k (length ms.now) result × (get_or result 0 0 ≡ 0) }
 {
-    let n = ms.len();
     let mut sums: [u32; 64] = [0; 64];
-    let mut i = k;
-    while i < n {
+    for i in k..ms.len() {
         let x = way[i];
         let c = place(x.cell);
-        sums[c] = sums[c] + part(x, ms[i]);
-        i += 1;
+        sums[c] += part(x, ms[i]);
     }
     sums[0] = 0;
     sums
@@ -120,11 +104,10 @@ fn block_unfair(low: [u32; 8], high: u32, sums: [u32; 64], marks: &[bool; 64], a
     requires { (at ≤ 56) × (high ≤ 50135040) × ((i : ℕ) → i < 8 → get_or low i 0 ≤ 50135040) × ((c : ℕ) → c < 64 → get_or sums c 0 ≤ 233963520) }
     ensures { result ≡ any_below 8 (unfair_at low high sums marks.now at) }
 {
-    let mut off: bool = false;
-    let mut i: usize = 0;
-    while i < 8 {
-        off = off | unfair(sums[at + i] + low[i] + high, marks[at + i]);
-        i += 1;
+    // No chain: without an early end the compiler takes all eight cells at once.
+    let mut off = false;
+    for i in 0..8 {
+        off |= unfair(sums[at + i] + low[i] + high, marks[at + i]);
     }
     off
 }
@@ -136,11 +119,9 @@ fn balanced(ps: [u32; 6], sums: [u32; 64], marks: &[bool; 64]) -> bool
 {
     let low = eight(ps[0], ps[1], ps[2]);
     let high = eight(ps[3], ps[4], ps[5]);
-    let mut off: bool = false;
-    let mut b: usize = 0;
-    while b < 8 {
-        off = off | block_unfair(low, high[b], sums, marks, 8 * b);
-        b += 1;
+    let mut off = false;
+    for b in 0..8 {
+        off |= block_unfair(low, high[b], sums, marks, 8 * b);
     }
     !off
 }
@@ -161,13 +142,9 @@ fn totals(way: [Limit; 14], ms: &[u8]) -> u64
     requires { length ms.now ≤ 14 }
     ensures { Totals way ms.now (length ms.now) result }
 {
-    let n = ms.len();
     let mut sum: u64 = 0;
-    let mut i: usize = 0;
-    while i < n {
-        let x = way[i];
-        sum += price_of(x, ms[i]);
-        i += 1;
+    for i in 0..ms.len() {
+        sum += price_of(way[i], ms[i]);
     }
     sum
 }
@@ -218,12 +195,8 @@ pub fn open_cells(cells: &[u8], k: u8) -> [bool; 64]
     if 6 < k {
         return marks;
     }
-    let n = cells_of(k as usize);
-    let mut c: usize = 0;
-    // By `!=`, as in the other loops over cells: of a power of two the compiler makes a shift for each `<`.
-    while c != n {
+    for c in 0..cell_count(k) {
         marks[c] = is_open(cells, c);
-        c += 1;
     }
     marks
 }

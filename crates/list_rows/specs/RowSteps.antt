@@ -1,5 +1,6 @@
 -- 16 and 17 of a counting step as the code tests them, on the step's bytes.
-use Rattle.std.specs.Prelude.{ℕ, zero, suc, ◌+◌, ◌-◌, ◌/◌, ◌%◌, ◌^◌, ◌≤◌, ◌<◌, ◌≡◌, Bool, cond, ◌||◌, List, [], length, get_or}
+use Rattle.std.specs.Prelude as Rust
+use Rattle.std.specs.Prelude.{Some, None, Ok, Err, is_some, ℕ, zero, suc, ◌+◌, ◌-◌, ◌/◌, ◌%◌, ◌^◌, ◌≤◌, ◌<◌, ◌≡◌, Bool, cond, ◌||◌, List, [], length, get_or}
 use Rattle.std.proofs.Math.Path.{refl, sym, ap, ap₂}
 use Rattle.std.proofs.Common.{◌∙◌, arith, lt-ltb, le-ltb}
 use Rattle.std.proofs.Math.Bool.{true, false, ◌&&◌}
@@ -19,13 +20,11 @@ use Rattle.refutation.specs.Cells.{Row, row_of, is_row}
 use Rattle.refutation.specs.Records.{unshown, cited, barred, Counting, counting, cell_at}
 use Rattle.refutation.specs.RecordTests.{cite_test, step_test, if_cited}
 use Rattle.list_form.specs.ListForm.{bytes_at, cell_of, is_mark}
-use Rattle.rows.specs.declared.RowOf.{RowOf}
-use Rattle.rows.specs.declared.RowOf.TheVariants.{Is, Nothing}
+use Rattle.rows.specs.declared.Row as Held
 use Rattle.rows.specs.HeldRows.{without_roles, held_row}
-use Rattle.cites.specs.declared.Cite.{Cite}
-use Rattle.cites.specs.declared.Cite.TheVariants.{Earlier, Bad}
 use Rattle.cites.specs.Cites.{named_refusal, cite_of, is_earlier, is_bad}
-use Rattle.answers.specs.declared.Tested.TheVariants.{Fine, Refused}
+use Rattle.answers.specs.declared.Reason.TheVariants as Reason
+use Rattle.answers.specs.Reasons.{refused}
 use Rattle.answers.specs.Answers.{refusal_of}
 
 -- the counting step of the bytes ds with k rows; 16 and 17 do not ask for its tree
@@ -114,14 +113,14 @@ module _ (marks : Bool) (ds : List ℕ) (k i c : ℕ) where
     pub cell_mark : (o : Bool) → o ≡ is_mark marks b → o ≡ true → true ≡ cites_at marks ds k i c
     cell_mark o q e = sym (by_mark ∙ rw (sym q ∙ e) refl)
 
-    cell_test_lem : (o : Bool) → o ≡ is_mark marks b → o ≡ false → ltb b i ≡ cites_at marks ds k i c
+    pub cell_test_lem : (o : Bool) → o ≡ is_mark marks b → o ≡ false → ltb b i ≡ cites_at marks ds k i c
     cell_test_lem o q e = sym (by_mark ∙ rw (sym q ∙ e) refl)
 
-    module _ (o : Bool) (m : o ≡ is_mark marks b) (e : o ≡ false) (x : Cite) (q : x ≡ cite_of i b) where
-      pub cell_earlier : (d : ℕ) → x ≡ Earlier d → true ≡ cites_at marks ds k i c
+    module _ (o : Bool) (m : o ≡ is_mark marks b) (e : o ≡ false) (x : Rust.Option ℕ) (q : x ≡ cite_of i b) where
+      pub cell_earlier : (d : ℕ) → x ≡ Some d → true ≡ cites_at marks ds k i c
       cell_earlier d t = sym (is_earlier i b d x q t).0 ∙ cell_test_lem o m e
 
-      pub cell_bad : x ≡ Bad → false ≡ cites_at marks ds k i c
+      pub cell_bad : x ≡ None → false ≡ cites_at marks ds k i c
       cell_bad t = sym (is_bad i b x q t) ∙ cell_test_lem o m e
 
 module _ (cs : List ℕ) (N : ℕ) (ds : List ℕ) (j b : ℕ) (p : b ≡ byte_at ds (2 + j)) where
@@ -129,19 +128,13 @@ module _ (cs : List ℕ) (N : ℕ) (ds : List ℕ) (j b : ℕ) (p : b ≡ byte_a
   unfolding members
   named_not e = rw (← p, code_literal b, e) refl
 
-  is_row_lem : (o : Option Row) (x : RowOf) → x ≡ held_row o → ((y : _) → x ≡ Is y → true ≡ is_row o) × (x ≡ Nothing → false ≡ is_row o)
-  is_row_lem none x e = (λ y q. absurd (let z : ◌≡◌ {A = ℕ} 0 1 = cc in omega arith), λ q. refl)
-  is_row_lem (some R) x e = (λ y q. refl, λ q. absurd (let z : ◌≡◌ {A = ℕ} 0 1 = cc in omega arith))
+  is_row_lem : (o : Option Row) → is_some (held_row o) ≡ is_row o
+  is_row_lem none = refl
+  is_row_lem (some R) = refl
 
-  pub named_row : has N b ≡ true → (x : RowOf) (y : _) → x ≡ held_row (row_of (without_roles cs []) (literal b)) → x ≡ Is y
-      → true ≡ named_at cs N ds j
+  pub named_row : has N b ≡ true → (x : Rust.Option Held.Row) → x ≡ held_row (row_of (without_roles cs []) (literal b)) → is_some x ≡ named_at cs N ds j
   unfolding members
-  named_row e x y q t = rw (← p, code_literal b, e) ((is_row_lem (row_of (without_roles cs []) (literal b)) x q).0 y t)
-
-  pub named_no_row : has N b ≡ true → (x : RowOf) → x ≡ held_row (row_of (without_roles cs []) (literal b)) → x ≡ Nothing
-      → false ≡ named_at cs N ds j
-  unfolding members
-  named_no_row e x q t = rw (← p, code_literal b, e) ((is_row_lem (row_of (without_roles cs []) (literal b)) x q).1 t)
+  named_row e x q = rw (← p, code_literal b, e) (ap is_some q ∙ is_row_lem (row_of (without_roles cs []) (literal b)))
 
 module _ (ds : List ℕ) (k j : ℕ) where
   pub rises_next : (a b : ℕ) → a ≡ byte_at ds (2 + j) → b ≡ byte_at ds (3 + j) → j + 1 < k → ltb a b ≡ rises_at ds k j
@@ -162,15 +155,15 @@ module _ (marks : Bool) (cs ds : List ℕ) (k i N : ℕ) where
   abbrev told : Option Refusal
   told = refuse i (rows_refusal (without_roles cs []) i N (count_of marks ds k)) none
 
-  pub rows_16 : cite ≡ false → refusal_of (Refused 16 i) ≡ told
+  pub rows_16 : cite ≡ false → refusal_of {A = Unit {0}} (Err (refused Reason.Cite i)) ≡ told
   unfolding named_refusal
   rows_16 e = rw (sym (cites_are marks cs ds k i N) ∙ e) refl
 
-  pub rows_17 : cite ≡ true → step ≡ false → refusal_of (Refused 17 i) ≡ told
+  pub rows_17 : cite ≡ true → step ≡ false → refusal_of {A = Unit {0}} (Err (refused Reason.Step i)) ≡ told
   unfolding named_refusal
   rows_17 p e = rw (sym (cites_are marks cs ds k i N) ∙ p, sym (rows_are marks cs ds k i N) ∙ e) refl
 
-  pub rows_fine : cite ≡ true → step ≡ true → refusal_of Fine ≡ told
+  pub rows_fine : cite ≡ true → step ≡ true → refusal_of {A = Unit {0}} (Ok tt) ≡ told
   unfolding named_refusal
   rows_fine p e = rw (sym (cites_are marks cs ds k i N) ∙ p, sym (rows_are marks cs ds k i N) ∙ e) refl
 

@@ -11,12 +11,12 @@ ghost use Rattle.answers.specs.Answers.{refusal_of};
 ghost use Rattle.rows.specs.HeldRows.{without_roles};
 ghost use Rattle.list_rows.specs.RowSteps.{in_table, named_at, rises_at, cites_at, rows_refusal, count_of};
 
-use answers::Tested;
-use cites::{Cite, look_up};
+use answers::{Reason, Refusal};
+use cites::look_up;
 use labels::{Label, holds};
 use list_form::is_mark;
 use parts::{byte, up_to};
-use rows::{RowOf, cell_count, row_of};
+use rows::{cell_count, row_of};
 
 // Whether row literal `j` is of the table.
 fn row_in_table(cs: &[u8], ds: &[u8], j: u8) -> bool
@@ -31,51 +31,36 @@ fn rows_in_table(cs: &[u8], ds: &[u8], k: u8) -> bool
     requires { k ≤ 6 }
     ensures { result ≡ all_below k (in_table cs.now ds.now) }
 {
-    let mut j: u8 = 0;
-    while j < k {
-        if !row_in_table(cs, ds, j) {
-            return false;
-        }
-        j += 1;
-    }
-    true
+    (0..k).all(|j| row_in_table(cs, ds, j))
 }
 
 // 16 of cell `c` of a step of record `i` with `k` rows: it has a mark, or cites a record before. `marks`: barred cells have one.
-fn test_cell(ds: &[u8], k: u8, i: u8, c: usize, marks: bool) -> Tested
+fn test_cell(ds: &[u8], k: u8, i: u8, c: usize, marks: bool) -> Result<(), Refusal>
     requires { (k ≤ 6) × (c < 64) }
     ensures { refusal_of result ≡ refuse i (unless (cites_at marks ds.now k i c) 16 none) none }
 {
     if c == 0 {
-        return Tested::Fine;
+        return Ok(());
     }
     let j = byte(ds, 1 + (k as usize) + c);
     if is_mark(j, marks) {
-        return Tested::Fine;
+        return Ok(());
     }
-    let found = look_up(i, j);
-    let Cite::Earlier(_) = found else {
-        return Tested::Refused(16, i);
+    let Some(_) = look_up(i, j) else {
+        return Err(Reason::Cite.at(i));
     };
-    Tested::Fine
+    Ok(())
 }
 
 // 16 of the cells of a step of record `i`.
-fn test_cells(ds: &[u8], k: u8, i: u8, marks: bool) -> Tested
+fn test_cells(ds: &[u8], k: u8, i: u8, marks: bool) -> Result<(), Refusal>
     requires { k ≤ 6 }
     ensures { refusal_of result ≡ refuse i (unless (all_below (2 ^ k) (cites_at marks ds.now k i)) 16 none) none }
 {
-    let n = cell_count(k);
-    let mut c: usize = 0;
-    // By `!=`: of a number of cells that is a power of two the compiler makes a shift for each `<`.
-    while c != n {
-        let t = test_cell(ds, k, i, c, marks);
-        let Tested::Fine = t else {
-            return t;
-        };
-        c += 1;
+    for c in 0..cell_count(k) {
+        test_cell(ds, k, i, c, marks)?;
     }
-    Tested::Fine
+    Ok(())
 }
 
 // Whether row literal `j` is in the label and gives a row.
@@ -84,14 +69,7 @@ fn row_named(cs: &[u8], x: Label, ds: &[u8], j: u8) -> bool
     ensures { result ≡ named_at cs.now (value_of x) ds.now j }
 {
     let l = byte(ds, 2 + (j as usize));
-    if !holds(x, l) {
-        return false;
-    }
-    let row = row_of(cs, l);
-    match row {
-        RowOf::Is(_) => true,
-        RowOf::Nothing => false,
-    }
+    holds(x, l) && row_of(cs, l).is_some()
 }
 
 // Whether each of `k` row literals is in the label and gives a row.
@@ -99,14 +77,7 @@ fn rows_named(cs: &[u8], x: Label, ds: &[u8], k: u8) -> bool
     requires { k ≤ 6 }
     ensures { result ≡ all_below k (named_at cs.now (value_of x) ds.now) }
 {
-    let mut j: u8 = 0;
-    while j < k {
-        if !row_named(cs, x, ds, j) {
-            return false;
-        }
-        j += 1;
-    }
-    true
+    (0..k).all(|j| row_named(cs, x, ds, j))
 }
 
 // Whether row literal `j` is below the next, if there is a next.
@@ -126,34 +97,31 @@ fn rows_rise(ds: &[u8], k: u8) -> bool
     requires { k ≤ 6 }
     ensures { result ≡ all_below k (rises_at ds.now k) }
 {
-    let mut j: u8 = 0;
-    while j < k {
-        if !row_rises(ds, k, j) {
-            return false;
-        }
-        j += 1;
-    }
-    true
+    (0..k).all(|j| row_rises(ds, k, j))
 }
 
 // Tests 16 and 17 of the counting step `ds` of record `i`, whose label is `x`; of more than 6 rows the first 6 are read.
-pub fn test_rows(cs: &[u8], i: u8, x: Label, ds: &[u8], rows: u8, marks: bool) -> Tested
+pub fn test_rows(
+    cs: &[u8],
+    i: u8,
+    x: Label,
+    ds: &[u8],
+    rows: u8,
+    marks: bool,
+) -> Result<(), Refusal>
     ensures { refusal_of result ≡ refuse i (rows_refusal (without_roles cs.now []) i (value_of x)
         (count_of marks ds.now (up_to 6 rows))) none }
 {
     let k = up_to(6, rows as usize);
     if !rows_in_table(cs, ds, k) {
-        return Tested::Refused(16, i);
+        return Err(Reason::Cite.at(i));
     }
-    let cells = test_cells(ds, k, i, marks);
-    let Tested::Fine = cells else {
-        return cells;
-    };
+    test_cells(ds, k, i, marks)?;
     if !rows_named(cs, x, ds, k) {
-        return Tested::Refused(17, i);
+        return Err(Reason::Step.at(i));
     }
     if !rows_rise(ds, k) {
-        return Tested::Refused(17, i);
+        return Err(Reason::Step.at(i));
     }
-    Tested::Fine
+    Ok(())
 }

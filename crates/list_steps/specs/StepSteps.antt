@@ -5,8 +5,8 @@ use Rattle.std.proofs.Common.{◌∙◌, arith, lt-ltb, le-ltb}
 use Rattle.std.proofs.Math.Bool.{true, false, ◌&&◌}
 use Rattle.std.proofs.lemmas.Bool.{false≢true}
 use mathlib.Core.List.{List, []}
-use Rattle.std.proofs.Math.Option.{Option, none, some}
-use Rattle.std.proofs.Math.Decide.{dec_le}
+use Rattle.std.proofs.Math.Option.{Option, none, some, none-ne-some}
+use Rattle.std.proofs.Math.Decide.{dec_le, dec_lt}
 use Rattle.std.proofs.Math.Dec.{ltb}
 use Rattle.logic.specs.Tests.{◌⇒◌, so_false}
 use Rattle.logic.specs.Bounded.{all_below}
@@ -24,8 +24,6 @@ use Rattle.tables.specs.declared.Concept.TheVariants.{Top, Name, Both, Every, At
 use Rattle.refutation.specs.Records.{Step, counting, literal_at, contradiction, conjunction, disjunction, by_rule, case_split, in_label}
 use Rattle.refutation.specs.Cells.{is_row}
 use Rattle.refutation.specs.RecordTests.{cite_test, step_test}
-use Rattle.answers.specs.declared.Tested.TheVariants.{Fine, Refused}
-use Rattle.answers.specs.Answers.{refusal_of}
 use Rattle.labels.specs.Labels.{most_entries, most_literals}
 use Rattle.nodes.specs.NodeSteps.{opposed}
 use Rattle.cites.specs.Cites.{of_entry, named_refusal}
@@ -91,17 +89,18 @@ module _ (D : Description) (num : ℕ → ℕ) (i N : ℕ) (x : Step) where
   abbrev named : Option Refusal
   named = refuse i (named_refusal D num i N x) none
 
-  pub named_16 : cite_test D num i N x ≡ false → refusal_of (Refused 16 i) ≡ named
+  -- the first test refuses
+  pub named_16 : (t : Bool) (z : Refusal) → t ≡ cite_test D num i N x → some z ≡ refuse i (unless t 16 none) none → some z ≡ named
   unfolding named_refusal
-  named_16 e = rw e refl
+  named_16 true z e q = absurd (none-ne-some z (sym q))
+  named_16 false z e q = q ∙ rw (← e) refl
 
-  pub named_17 : cite_test D num i N x ≡ true → step_test D num i N x ≡ false → refusal_of (Refused 17 i) ≡ named
+  -- it does not, and what the second answers
+  pub named_17 : (t u : Bool) (o : Option Refusal) → t ≡ cite_test D num i N x → u ≡ step_test D num i N x → none ≡ refuse i (unless t 16 none) none
+      → o ≡ refuse i (unless u 17 none) none → o ≡ named
   unfolding named_refusal
-  named_17 p e = rw (p, e) refl
-
-  pub named_fine : cite_test D num i N x ≡ true → step_test D num i N x ≡ true → refusal_of Fine ≡ named
-  unfolding named_refusal
-  named_fine p e = rw (p, e) refl
+  named_17 true u o e f q r = r ∙ rw (← e, ← f) refl
+  named_17 false u o e f q r = absurd (none-ne-some _ q)
 
 -- ---- 16 and 17 of each step, from the tests that the code makes
 module _ (cs qs : List ℕ) (num : ℕ → ℕ) (i N : ℕ) where
@@ -136,11 +135,11 @@ module _ (cs qs : List ℕ) (num : ℕ → ℕ) (i N : ℕ) where
   unfolding step_test
   follows_3 e c d j k a b p o q r = rw (← p, ← o, q, r) refl
 
-  pub rule_in_lem : (q : ℕ) → q + 1 < length qs → ltb q (length qs - 1) ≡ true
-  rule_in_lem q h = lt-ltb q (length qs - 1) (omega arith)
-
-  pub rule_past : (q : ℕ) → length qs ≤ q + 1 → ltb q (length qs - 1) ≡ false
-  rule_past q h = le-ltb q (length qs - 1) (omega arith)
+  pub rule_in_lem : (q : ℕ) → ltb q (length qs - 1) ≡ ltb (q + 1) (length qs)
+  rule_in_lem q = elim (dec_lt (q + 1) (length qs)) [
+    | yes h ↦ rw (lt-ltb (q + 1) (length qs) h) (lt-ltb q (length qs - 1) (omega arith))
+    | no h ↦ (let z : length qs ≤ q + 1 = omega arith in rw (le-ltb (q + 1) (length qs) z) (le-ltb q (length qs - 1) (omega arith)))
+  ]
 
   pub cite_4 : (q c : ℕ) (a b : Bool) → ltb q (length qs - 1) ≡ a → ltb c i ≡ b → cite_test D num i N (by_rule q c) ≡ (a && b)
   unfolding cite_test
@@ -196,17 +195,28 @@ module _ (marks : Bool) (cs qs : List ℕ) (num : ℕ → ℕ) (ds : List ℕ) (
 
 -- 10 and 16 of the label before them
 module _ (D : Description) (num : ℕ → ℕ) (i N : ℕ) where
-  pub form_off : (o : Option Step) → formed o ≡ false → refusal_of (Refused 10 i) ≡ refuse i (step_refusal D num i N o) none
-  form_off none h = refl
-  form_off (some x) h = absurd (false≢true (sym h))
+  abbrev all : Option Step → Option Refusal
+  all o = refuse i (step_refusal D num i N o) none
 
-  pub label_off : (o : Option Step) → formed o ≡ true → narrow N (2 * D.entries) ≡ false → refusal_of (Refused 16 i) ≡ refuse i (step_refusal D num i N o) none
-  label_off none h e = absurd (false≢true h)
-  label_off (some x) h e = rw e refl
+  pub form_off : (o : Option Step) (z : Refusal) → some z ≡ refuse i (unless (formed o) 10 none) none → some z ≡ all o
+  form_off none z q = q
+  form_off (some x) z q = absurd (none-ne-some z (sym q))
 
-  pub label_on : (o : Option Step) → formed o ≡ true → narrow N (2 * D.entries) ≡ true → refuse i (step_named D num i N o) none ≡ refuse i (step_refusal D num i N o) none
-  label_on none h e = absurd (false≢true h)
-  label_on (some x) h e = rw e refl
+  pub form_on : (o : Option Step) → none ≡ refuse i (unless (formed o) 10 none) none → formed o ≡ true
+  form_on none q = absurd (none-ne-some _ q)
+  form_on (some x) q = refl
+
+  pub label_off : (o : Option Step) (t : Bool) (z : Refusal) → formed o ≡ true → t ≡ narrow N (2 * D.entries) → some z ≡ refuse i (unless t 16 none) none
+      → some z ≡ all o
+  label_off none t z h e q = absurd (false≢true h)
+  label_off (some x) true z h e q = absurd (none-ne-some z (sym q))
+  label_off (some x) false z h e q = q ∙ rw (← e) refl
+
+  pub label_on : (o : Option Step) (t : Bool) → formed o ≡ true → t ≡ narrow N (2 * D.entries) → none ≡ refuse i (unless t 16 none) none
+      → refuse i (step_named D num i N o) none ≡ all o
+  label_on none t h e q = absurd (false≢true h)
+  label_on (some x) true h e q = rw (← e) refl
+  label_on (some x) false h e q = absurd (none-ne-some _ q)
 
 -- a label lies in any table of the most entries and more
 pub table_wide : (cs : List ℕ) (N n : ℕ) → N < 2 ^ most_literals → n ≡ entry_count cs → narrow N (2 * n) ≡ narrow N (2 * (length cs / 6))

@@ -1,5 +1,6 @@
 -- What the code holds is what the theory names: the limits on the way, a leaf's multipliers, the open cells, the whole test.
-use Rattle.std.specs.Prelude.{ℕ, zero, suc, ◌+◌, ◌-◌, ◌^◌, ◌≤◌, ◌<◌, ◌≡◌, Bool, cond, ◌&&◌, List, [], ◌∷◌, ◌++◌, eqb, leb, length, get_or, set, take, drop}
+use Rattle.std.specs.Prelude as Rust
+use Rattle.std.specs.Prelude.{is_some, ℕ, zero, suc, ◌+◌, ◌-◌, ◌^◌, ◌≤◌, ◌<◌, ◌≡◌, Bool, cond, ◌&&◌, List, [], ◌∷◌, ◌++◌, eqb, leb, length, get_or, set, take, drop}
 use Rattle.std.proofs.Math.Path.{refl, ap, fun_ext}
 use Rattle.std.proofs.Common.{◌∙◌, ap₂, add-one, pow_pos, length-set, get_or-set_same, get_or-set_other, drop-cons}
 use Rattle.std.proofs.Math.Bool.{true, false}
@@ -7,7 +8,6 @@ use Rattle.std.proofs.Math.Option.{Option, none, some, some-injective, none-ne-s
 use native.Mathlib.Omega.{arith}
 use Rattle.std.proofs.Math.Decide.{dec_lt}
 use borrow.Author.Tests.{lt-ltb, le-ltb, le-leb, lt-leb}
-use Rattle.std.proofs.Math.Dec.{ltb}
 use Rattle.std.proofs.Math.ListN.{get_or-eq_default}
 use Rattle.logic.specs.Tests.{and_l, and_r}
 use Rattle.logic.specs.Lists.{tabulate, length_tabulate, at_tabulate, tabulate_cong, tabulate_snoc}
@@ -21,7 +21,7 @@ use Rattle.refutation.specs.Cells as Theory
 use Rattle.refutation.specs.Cells.{bounds, length_bounds}
 use Rattle.refutation.specs.Records.{Cell, unshown, cited, barred, is_open, open_at, Counting, as_counting, counting}
 use Rattle.list_form.specs.ListForm.{Placed, bytes_at, cell_of, tree_in, tree_at, most_depth, counting_in, and_then, given}
-use Rattle.list_form.specs.FormSteps.{node_past, tree_past}
+use Rattle.list_form.specs.FormSteps.{node_past}
 use Rattle.rows.specs.HeldRows as HeldRows
 use Rattle.rows.specs.HeldRows.{held_at, rows_held}
 use Rattle.rows.specs.declared.Row.{Row}
@@ -118,32 +118,31 @@ module _ (rows : List Row) (ds : List ℕ) (k : ℕ) where
   unfolding closing_in tree_in
   closing_cut h c = rw (le-leb k 6 h, ← node_past ds k (tree_at k) (omega arith)) refl
 
-  module _ (way : List Limit) (start q : ℕ) (h : k ≤ 6) (s : start ≡ tree_at k) (l : start ≤ length ds) (e : limits_held k way k ≡ limits those) where
+  module _ (way : List Limit) (start : ℕ) (q : Rust.Option ℕ) (h : k ≤ 6) (s : start ≡ tree_at k) (l : start ≤ length ds) (e : limits_held k way k ≡ limits those) where
     -- the bytes of the cells
     abbrev cells : List ℕ
     cells = take (start - (2 + k)) (drop (2 + k) ds)
 
-    closing_ends : q ≡ end_of (closed_in ds k (open_byte cells) most_depth k (limits_held k way k) start) → ltb 0 q ≡ closing_in those ds k
+    closing_ends : q ≡ end_of (closed_in ds k (open_byte cells) most_depth k (limits_held k way k) start) → is_some q ≡ closing_in those ds k
     unfolding closing_in closed_in
     closing_ends t =
         let z : start - (2 + k) ≡ 2 ^ k - 1 = omega arith in
-        ap (ltb 0) t ∙ rw (z, part_bytes ds (2 + k) (2 ^ k - 1) (omega arith), e, s, le-leb k 6 h)
-        (go (tree_in ds most_depth k (tree_at k)) refl)
+        ap is_some t ∙ rw (z, part_bytes ds (2 + k) (2 ^ k - 1) (omega arith), e, s, le-leb k 6 h)
+        (go (tree_in ds most_depth k (tree_at k)))
       where
-        passed : (b : Bool) (x : ℕ) → 0 < x → ltb 0 (end_of (given b x)) ≡ b
-        passed true x p = lt-ltb 0 x p
-        passed false x p = refl
+        passed : (b : Bool) (x : ℕ) → is_some (end_of (given b x)) ≡ b
+        passed true x = refl
+        passed false x = refl
 
         tested : Placed → Bool
         tested t = tree_test (2 ^ k) (open_in ds k) value_fits (limits those) t.tree
 
-        go : (o : Option Placed) → tree_in ds most_depth k (tree_at k) ≡ o → ltb 0 (end_of (and_then o (λ t. given (tested t) t.end))) ≡ closing those (open_in ds k) o
-        go none x = refl
-        go (some t) x = passed (tested t) t.end (tree_past ds most_depth k (tree_at k) t x)
-            ∙ rw (length_bounds (rows_held rows k), length_tabulate k (λ i. HeldRows.given (held_at rows i))) refl
+        go : (o : Option Placed) → is_some (end_of (and_then o (λ t. given (tested t) t.end))) ≡ closing those (open_in ds k) o
+        go none = refl
+        go (some t) = passed (tested t) t.end ∙ rw (length_bounds (rows_held rows k), length_tabulate k (λ i. HeldRows.given (held_at rows i))) refl
 
     pub closing_told : (marks : List Bool) → length marks ≡ 64 → ((c : ℕ) → c < 64 → marked marks c ≡ open_cell k cells c)
-        → q ≡ end_of (closed_in ds k (marked marks) most_depth k (limits_held k way k) start) → ltb 0 q ≡ closing_in those ds k
+        → q ≡ end_of (closed_in ds k (marked marks) most_depth k (limits_held k way k) start) → is_some q ≡ closing_in those ds k
     closing_told marks w m t = closing_ends (t ∙ ap end_of (closed_same ds k (marked marks) (open_byte cells) most_depth k (limits_held k way k) start (marks_live k cells marks w m h)))
 
 -- ---- 19 on bytes is 19 of the step that they are

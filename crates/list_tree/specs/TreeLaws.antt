@@ -2,8 +2,10 @@
 use Prim.Native.Nat.{ℕ, zero, suc, ◌+◌, ◌-◌, ◌^◌, ◌≤◌, ◌<◌}
 use Rattle.std.proofs.Math.Path.{◌≡◌, refl, ap, ap₂}
 use Rattle.std.proofs.Common.{sym, ◌∙◌, inl, inr, add-one, lt-ltb, le-ltb, pow_mono}
-use Rattle.std.specs.Prelude.{◌⊎◌, Bool, List, [], ◌∷◌, ◌++◌, ltb, pos}
+use Rattle.std.specs.Prelude as Rust
+use Rattle.std.specs.Prelude.{Some, None, ◌⊎◌, Bool, List, [], ◌∷◌, ◌++◌, ltb, pos}
 use Rattle.std.proofs.Math.Bool.{true, false, cond, ◌&&◌}
+use Rattle.std.proofs.lemmas.Option.{none-some, same_Some}
 use Rattle.std.proofs.Math.Option.{Option, none, some, some-injective, none-ne-some}
 use native.Mathlib.Omega.{arith}
 use Rattle.std.proofs.Math.Decide.{dec_lt}
@@ -18,22 +20,21 @@ use Rattle.counting.specs.Trees.{Tree, leaf, split, lower, upper, weight, gap, l
 use Rattle.list_form.specs.ListForm.{Placed, bytes_at, node_in, tree_in, and_then, given}
 use Rattle.list_form.specs.FormSteps.{tree_past}
 use Rattle.list_form.specs.declared.Node.{Node}
-use Rattle.list_form.specs.declared.Node.TheVariants.{Leaf, Split, Off}
+use Rattle.list_form.specs.declared.Node.TheVariants.{Leaf, Split}
 use Rattle.list_tree.specs.declared.Fit.{Fit}
-use Rattle.list_tree.specs.declared.Fit.TheVariants.{Closing, Splitting, Unfit}
+use Rattle.list_tree.specs.declared.Fit.TheVariants.{Closing, Splitting}
 use Rattle.list_leaf.specs.Leaf.{marked}
 use Rattle.list_leaf.specs.OpenLaws.{Among}
 use Rattle.list_tree.specs.ListTree.{value_fits}
 use Rattle.list_tree.specs.TreeSteps.{split_test, fit, fit_node, fit_refusal, is_fit, closed_in, end_of}
 
 -- ---- the case of a node has the number of the case
-pub fit_told : (x y : Fit) → x ≡ y → (x ≡ y) × (fit_refusal x ≡ unless (is_fit y) 19 none)
+pub fit_told : (x y : Rust.Option Fit) → x ≡ y → (x ≡ y) × (fit_refusal x ≡ unless (is_fit y) 19 none)
 fit_told x y e = (e, ap fit_refusal e ∙ go y)
   where
-    go : (y : Fit) → fit_refusal y ≡ unless (is_fit y) 19 none
-    go (Closing end) = refl
-    go Splitting = refl
-    go Unfit = refl
+    go : (y : Rust.Option Fit) → fit_refusal y ≡ unless (is_fit y) 19 none
+    go (Some x) = refl
+    go None = refl
 
 -- ---- what an end says
 closed_past : (ds : List ℕ) (k : ℕ) (open? : ℕ → Bool) (left n : ℕ) (ls : List Counting.Limit) (at p : ℕ) → closed_in ds k open? left n ls at ≡ some p → 0 < p
@@ -48,13 +49,13 @@ closed_past ds k open? left n ls at p e = go (tree_in ds left n at) refl e
     go none h q = absurd (none-ne-some p q)
     go (some t) h q = there (tree_test (2 ^ k) open? value_fits ls t.tree) t (tree_past ds left n at t h) q
 
-end_none : (o : Option ℕ) → ((p : ℕ) → o ≡ some p → 0 < p) → 0 ≡ end_of o → o ≡ none
-end_none none h e = refl
-end_none (some p) h e = absurd (let z = h p refl in omega (arith, z, e))
+end_none : (o : Option ℕ) → None ≡ end_of o → o ≡ none
+end_none none e = refl
+end_none (some p) e = absurd (none-some p e)
 
-end_some : (o : Option ℕ) (p : ℕ) → (p ≡ 0 → ⊥) → p ≡ end_of o → o ≡ some p
-end_some none p h e = absurd (h e)
-end_some (some q) p h e = ap some (sym e)
+end_some : (o : Option ℕ) (p : ℕ) → Some p ≡ end_of o → o ≡ some p
+end_some none p e = absurd (none-some p (sym e))
+end_some (some q) p e = ap some (sym (same_Some _ _ e))
 
 given_all : (b a e : Bool) (x : ℕ) (f : ℕ → Option ℕ) (p : ℕ) → f p ≡ given e x → given (b && (a && e)) x ≡ cond b (and_then (given a p) f) none
 given_all true true e x f p q = sym q
@@ -89,24 +90,24 @@ module _ (ds : List ℕ) (k : ℕ) (open? : ℕ → Bool) (n : ℕ) (ls : List C
   abbrev walk : ℕ → Option ℕ
   walk left = closed_in ds k open? left n ls at
 
-  abbrev node : Fit
+  abbrev node : Rust.Option Fit
   node = fit_node ds k open? n ls at
 
   -- ---- the node
-  pub fit_leaf : (end : ℕ) (t : Bool) → Leaf end ≡ node_in ds n at → t ≡ leaf_here → cond t (Closing end) Unfit ≡ node
+  pub fit_leaf : (end : ℕ) (t : Bool) → Some (Leaf end) ≡ node_in ds n at → t ≡ leaf_here → cond t (Some (Closing end)) None ≡ node
   unfolding fit_node
   fit_leaf end t e q = rw (← e, ← q) refl
 
-  pub fit_split : (t : Bool) → Split ≡ node_in ds n at → t ≡ split_here → cond t Splitting Unfit ≡ node
+  pub fit_split : (t : Bool) → Some Split ≡ node_in ds n at → t ≡ split_here → cond t (Some Splitting) None ≡ node
   unfolding fit_node
   fit_split t e q = rw (← e, ← q) refl
 
-  pub fit_off : Off ≡ node_in ds n at → Unfit ≡ node
+  pub fit_off : None ≡ node_in ds n at → None ≡ node
   unfolding fit_node
   fit_off e = rw (← e) refl
 
   -- ---- a split: its two halves, one after the other
-  closed_split : (left : ℕ) → Split ≡ node_in ds n at
+  closed_split : (left : ℕ) → Some Split ≡ node_in ds n at
       → walk (suc left) ≡ cond split_here (and_then (closed_in ds k open? left (suc n) lows (at + 4)) (λ p. closed_in ds k open? left (suc n) highs p)) none
   unfolding closed_in tree_in tree_test
   closed_split left e = rw (← e) (first (tree_in ds left (suc n) (at + 4)))
@@ -138,78 +139,78 @@ module _ (ds : List ℕ) (k : ℕ) (open? : ℕ → Bool) (n : ℕ) (ls : List C
       first (some l) = second l (tree_in ds left (suc n) l.end) refl
 
   -- ---- the other nodes
-  closed_at_leaf : (left end : ℕ) → Leaf end ≡ node_in ds n at → walk left ≡ given leaf_here end
+  closed_at_leaf : (left end : ℕ) → Some (Leaf end) ≡ node_in ds n at → walk left ≡ given leaf_here end
   unfolding closed_in tree_in tree_test
   closed_at_leaf zero end e = rw (← e) refl
   closed_at_leaf (suc left) end e = rw (← e) refl
 
-  closed_at_off : (left : ℕ) → Off ≡ node_in ds n at → walk left ≡ none
+  closed_at_off : (left : ℕ) → None ≡ node_in ds n at → walk left ≡ none
   unfolding closed_in tree_in
   closed_at_off zero e = rw (← e) refl
   closed_at_off (suc left) e = rw (← e) refl
 
-  closed_too_deep : Split ≡ node_in ds n at → walk zero ≡ none
+  closed_too_deep : Some Split ≡ node_in ds n at → walk zero ≡ none
   unfolding closed_in tree_in
   closed_too_deep e = rw (← e) refl
 
   -- ---- by the node that fits
-  pub fit_is_split : Splitting ≡ node → (Split ≡ node_in ds n at) × (split_here ≡ true)
+  pub fit_is_split : Some Splitting ≡ node → (Some Split ≡ node_in ds n at) × (split_here ≡ true)
   unfolding fit_node
   fit_is_split e = go (node_in ds n at) refl e
     where
-      split_on : (b : Bool) → split_here ≡ b → Splitting ≡ cond b Splitting Unfit → split_here ≡ true
+      split_on : (b : Bool) → split_here ≡ b → Some Splitting ≡ cond b (Some Splitting) None → split_here ≡ true
       split_on true h q = h
       split_on false h q = absurd (let z : ◌≡◌ {A = ℕ} 0 1 = cc in omega arith)
 
-      no_leaf : (b : Bool) (end : ℕ) → Splitting ≡ cond b (Closing end) Unfit → ⊥
+      no_leaf : (b : Bool) (end : ℕ) → Some Splitting ≡ cond b (Some (Closing end)) None → ⊥
       no_leaf true end q = let z : ◌≡◌ {A = ℕ} 0 1 = cc in omega arith
       no_leaf false end q = let z : ◌≡◌ {A = ℕ} 0 1 = cc in omega arith
 
-      go : (x : Node) → x ≡ node_in ds n at → Splitting ≡ fit ds k open? n ls at x → (Split ≡ node_in ds n at) × (split_here ≡ true)
-      go (Leaf end) h q = absurd (no_leaf leaf_here end q)
-      go Split h q = (h, split_on split_here refl q)
-      go Off h q = absurd (let z : ◌≡◌ {A = ℕ} 0 1 = cc in omega arith)
+      go : (x : Rust.Option Node) → x ≡ node_in ds n at → Some Splitting ≡ fit ds k open? n ls at x → (Some Split ≡ node_in ds n at) × (split_here ≡ true)
+      go (Some (Leaf end)) h q = absurd (no_leaf leaf_here end q)
+      go (Some Split) h q = (h, split_on split_here refl q)
+      go None h q = absurd (let z : ◌≡◌ {A = ℕ} 0 1 = cc in omega arith)
 
-  pub closed_leaf : (left end : ℕ) → Closing end ≡ node → end ≡ end_of (walk left)
+  pub closed_leaf : (left end : ℕ) → Some (Closing end) ≡ node → Some end ≡ end_of (walk left)
   unfolding fit_node
   closed_leaf left end e = go (node_in ds n at) refl e
     where
-      leaf_on : (f : ℕ) (b : Bool) → leaf_here ≡ b → Leaf f ≡ node_in ds n at → Closing end ≡ cond b (Closing f) Unfit → end ≡ end_of (walk left)
-      leaf_on f true h x q = let z : end ≡ f = cc in rw (closed_at_leaf left f x, h) z
+      leaf_on : (f : ℕ) (b : Bool) → leaf_here ≡ b → Some (Leaf f) ≡ node_in ds n at → Some (Closing end) ≡ cond b (Some (Closing f)) None → Some end ≡ end_of (walk left)
+      leaf_on f true h x q = let z : end ≡ f = cc in rw (closed_at_leaf left f x, h) (ap Some z)
       leaf_on f false h x q = absurd (let z : ◌≡◌ {A = ℕ} 0 1 = cc in omega arith)
 
-      no_split : (b : Bool) → Closing end ≡ cond b Splitting Unfit → ⊥
+      no_split : (b : Bool) → Some (Closing end) ≡ cond b (Some Splitting) None → ⊥
       no_split true q = let z : ◌≡◌ {A = ℕ} 0 1 = cc in omega arith
       no_split false q = let z : ◌≡◌ {A = ℕ} 0 1 = cc in omega arith
 
-      go : (x : Node) → x ≡ node_in ds n at → Closing end ≡ fit ds k open? n ls at x → end ≡ end_of (walk left)
-      go (Leaf f) h q = leaf_on f leaf_here refl h q
-      go Split h q = absurd (no_split split_here q)
-      go Off h q = absurd (let z : ◌≡◌ {A = ℕ} 0 1 = cc in omega arith)
+      go : (x : Rust.Option Node) → x ≡ node_in ds n at → Some (Closing end) ≡ fit ds k open? n ls at x → Some end ≡ end_of (walk left)
+      go (Some (Leaf f)) h q = leaf_on f leaf_here refl h q
+      go (Some Split) h q = absurd (no_split split_here q)
+      go None h q = absurd (let z : ◌≡◌ {A = ℕ} 0 1 = cc in omega arith)
 
-  pub closed_off : (left : ℕ) → Unfit ≡ node → 0 ≡ end_of (walk left)
+  pub closed_off : (left : ℕ) → None ≡ node → None ≡ end_of (walk left)
   unfolding fit_node
   closed_off left e = ap end_of (sym (go (node_in ds n at) refl e))
     where
-      leaf_open : (f : ℕ) (b : Bool) → leaf_here ≡ b → Leaf f ≡ node_in ds n at → Unfit ≡ cond b (Closing f) Unfit → walk left ≡ none
+      leaf_open : (f : ℕ) (b : Bool) → leaf_here ≡ b → Some (Leaf f) ≡ node_in ds n at → None ≡ cond b (Some (Closing f)) None → walk left ≡ none
       leaf_open f true h x q = absurd (let z : ◌≡◌ {A = ℕ} 0 1 = cc in omega arith)
       leaf_open f false h x q = closed_at_leaf left f x ∙ rw h refl
 
-      split_off : (left : ℕ) (b : Bool) → split_here ≡ b → Split ≡ node_in ds n at → Unfit ≡ cond b Splitting Unfit → walk left ≡ none
+      split_off : (left : ℕ) (b : Bool) → split_here ≡ b → Some Split ≡ node_in ds n at → None ≡ cond b (Some Splitting) None → walk left ≡ none
       split_off left true h x q = absurd (let z : ◌≡◌ {A = ℕ} 0 1 = cc in omega arith)
       split_off zero false h x q = closed_too_deep x
       split_off (suc left) false h x q = closed_split left x ∙ rw h refl
 
-      go : (x : Node) → x ≡ node_in ds n at → Unfit ≡ fit ds k open? n ls at x → walk left ≡ none
-      go (Leaf f) h q = leaf_open f leaf_here refl h q
-      go Split h q = split_off left split_here refl h q
-      go Off h q = closed_at_off left h
+      go : (x : Rust.Option Node) → x ≡ node_in ds n at → None ≡ fit ds k open? n ls at x → walk left ≡ none
+      go (Some (Leaf f)) h q = leaf_open f leaf_here refl h q
+      go (Some Split) h q = split_off left split_here refl h q
+      go None h q = closed_at_off left h
 
-  pub closed_deep : (left : ℕ) → left ≡ 0 → Splitting ≡ node → 0 ≡ end_of (walk left)
+  pub closed_deep : (left : ℕ) → left ≡ 0 → Some Splitting ≡ node → None ≡ end_of (walk left)
   closed_deep left z e = rw (z, closed_too_deep (fit_is_split e).0) refl
 
   -- a split that fits: its first half, and then its second
-  module _ (left : ℕ) (e : Splitting ≡ node) (h : left ≡ 0 → ⊥) where
+  module _ (left : ℕ) (e : Some Splitting ≡ node) (h : left ≡ 0 → ⊥) where
     abbrev walk_under : List Counting.Limit → ℕ → Option ℕ
     walk_under xs p = closed_in ds k open? (left - 1) (n + 1) xs p
 
@@ -217,12 +218,12 @@ module _ (ds : List ℕ) (k : ℕ) (open? : ℕ → Bool) (n : ℕ) (ls : List C
     halves = let z : left ≡ suc (left - 1) = omega arith in let s = fit_is_split e in
         ap walk z ∙ closed_split (left - 1) s.0 ∙ rw (s.1, add-one n) refl
 
-    pub closed_first : (xs : List Counting.Limit) (p : ℕ) → xs ≡ lows → p ≡ 0 → p ≡ end_of (walk_under xs (at + 4)) → 0 ≡ end_of (walk left)
-    closed_first xs p x w q = rw (halves, ← x, end_none (walk_under xs (at + 4)) (closed_past ds k open? (left - 1) (n + 1) xs (at + 4)) (sym w ∙ q)) refl
+    pub closed_first : (xs : List Counting.Limit) → xs ≡ lows → None ≡ end_of (walk_under xs (at + 4)) → None ≡ end_of (walk left)
+    closed_first xs x q = rw (halves, ← x, end_none (walk_under xs (at + 4)) q) refl
 
-    pub closed_second : (xs ys : List Counting.Limit) (p r : ℕ) → xs ≡ lows → ys ≡ highs → (p ≡ 0 → ⊥)
-        → p ≡ end_of (walk_under xs (at + 4)) → r ≡ end_of (walk_under ys p) → r ≡ end_of (walk left)
-    closed_second xs ys p r x y w q t = t ∙ rw (halves, ← x, ← y, end_some (walk_under xs (at + 4)) p w q) refl
+    pub closed_second : (xs ys : List Counting.Limit) (p : ℕ) (r : Rust.Option ℕ) → xs ≡ lows → ys ≡ highs
+        → Some p ≡ end_of (walk_under xs (at + 4)) → r ≡ end_of (walk_under ys p) → r ≡ end_of (walk left)
+    closed_second xs ys p r x y q t = t ∙ rw (halves, ← x, ← y, end_some (walk_under xs (at + 4)) p q) refl
 
 -- ---- a split's test
 pub split_among : (k : ℕ) (marks : List Bool) (c v : ℕ) → k ≤ 6 → Among k marks → (ltb c 64 && (marked marks c && value_fits v)) ≡ split_test k (marked marks) c v

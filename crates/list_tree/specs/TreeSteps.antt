@@ -1,14 +1,15 @@
 -- The tree of a counting step as the code walks it: the limits that it holds, and the node and the tree at a place.
-use Rattle.std.specs.Prelude.{ℕ, ◌+◌, ◌^◌, ◌≤◌, ◌≡◌, Bool, true, false, cond, ◌&&◌, List, [], ◌∷◌, ◌++◌, eqb, ltb, length}
+use Rattle.std.specs.Prelude as Rust
+use Rattle.std.specs.Prelude.{Some, None, ℕ, ◌+◌, ◌^◌, ◌≤◌, ◌≡◌, Bool, true, false, cond, ◌&&◌, List, [], ◌∷◌, ◌++◌, eqb, ltb, length}
 use Rattle.std.proofs.Math.Option.{Option, none, some}
 use Rattle.parts.specs.Numbers.{byte_at, num2}
 use Rattle.counting.specs.Trees as Counting
 use Rattle.counting.specs.Trees.{limit, live, leaf_test, tree_test}
 use Rattle.list_form.specs.ListForm.{bytes_at, node_in, tree_in, and_then, given}
 use Rattle.list_form.specs.declared.Node.{Node}
-use Rattle.list_form.specs.declared.Node.TheVariants.{Leaf, Split, Off}
+use Rattle.list_form.specs.declared.Node.TheVariants.{Leaf, Split}
 use Rattle.list_tree.specs.declared.Fit.{Fit}
-use Rattle.list_tree.specs.declared.Fit.TheVariants.{Closing, Splitting, Unfit}
+use Rattle.list_tree.specs.declared.Fit.TheVariants.{Closing, Splitting}
 use Rattle.list_leaf.specs.declared.Limit.{Limit}
 use Rattle.list_leaf.specs.Leaf.{limits_held}
 use Rattle.rows.specs.declared.Row.{Row}
@@ -33,31 +34,29 @@ pub record PutBehind (way : List Limit) (n : ℕ) (l : Counting.Limit) (next : L
 abbrev pub split_test : ℕ → (ℕ → Bool) → ℕ → ℕ → Bool
 split_test k open? c v = ltb c (2 ^ k) && (live open? c && value_fits v)
 
--- the node at a place: a leaf that closes, a split that fits, or unfit
-abbrev pub fit : List ℕ → ℕ → (ℕ → Bool) → ℕ → List Counting.Limit → ℕ → Node → Fit
-fit ds k open? n ls at (Leaf end) = cond (leaf_test (2 ^ k) open? ls (bytes_at (λ b. b) ds (at + 1) n)) (Closing end) Unfit
-fit ds k open? n ls at Split = cond (split_test k open? (byte_at ds (at + 1)) (num2 ds (at + 2))) Splitting Unfit
-fit ds k open? n ls at Off = Unfit
+-- the node at a place, if it fits: a leaf that closes, or a split
+abbrev pub fit : List ℕ → ℕ → (ℕ → Bool) → ℕ → List Counting.Limit → ℕ → Rust.Option Node → Rust.Option Fit
+fit ds k open? n ls at (Some (Leaf end)) = cond (leaf_test (2 ^ k) open? ls (bytes_at (λ b. b) ds (at + 1) n)) (Some (Closing end)) None
+fit ds k open? n ls at (Some Split) = cond (split_test k open? (byte_at ds (at + 1)) (num2 ds (at + 2))) (Some Splitting) None
+fit ds k open? n ls at None = None
 
 -- the paper's number of each case: a split that is off, or a leaf that is open (where no node stands at all, 10 has refused before)
-abbrev pub fit_refusal : Fit → Option ℕ
-fit_refusal (Closing end) = none
-fit_refusal Splitting = none
-fit_refusal Unfit = some 19
+abbrev pub fit_refusal : Rust.Option Fit → Option ℕ
+fit_refusal (Some x) = none
+fit_refusal None = some 19
 
-abbrev pub is_fit : Fit → Bool
-is_fit (Closing end) = true
-is_fit Splitting = true
-is_fit Unfit = false
+abbrev pub is_fit : Rust.Option Fit → Bool
+is_fit (Some x) = true
+is_fit None = false
 
-unfoldable pub fit_node : List ℕ → ℕ → (ℕ → Bool) → ℕ → List Counting.Limit → ℕ → Fit
+unfoldable pub fit_node : List ℕ → ℕ → (ℕ → Bool) → ℕ → List Counting.Limit → ℕ → Rust.Option Fit
 fit_node ds k open? n ls at = fit ds k open? n ls at (node_in ds n at)
 
 -- the end of the tree at a place, if it has its form and closes under the limits ls, which are n
 unfoldable pub closed_in : List ℕ → ℕ → (ℕ → Bool) → ℕ → ℕ → List Counting.Limit → ℕ → Option ℕ
 closed_in ds k open? left n ls at = and_then (tree_in ds left n at) (λ t. given (tree_test (2 ^ k) open? value_fits ls t.tree) t.end)
 
--- 0, where no tree ends, if there is none
-abbrev pub end_of : Option ℕ → ℕ
-end_of none = 0
-end_of (some end) = end
+-- the end as the code tells it
+abbrev pub end_of : Option ℕ → Rust.Option ℕ
+end_of none = None
+end_of (some end) = Some end

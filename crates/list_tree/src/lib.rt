@@ -1,7 +1,7 @@
 // The tree of a counting step: test 19.
 #![tactic(auto)]
 
-ghost use Rattle.std.specs.Prelude.{◌≡◌, ◌&&◌, ◌+◌, ◌≤◌, ◌<◌, ltb, length};
+ghost use Rattle.std.specs.Prelude.{Some, ◌≡◌, ◌&&◌, ◌+◌, ◌≤◌, ◌<◌, ltb, length};
 ghost use Rattle.std.proofs.Math.Option.{none};
 ghost use Rattle.logic.specs.Refusals.{unless};
 ghost use Rattle.counting.specs.Trees.{at_most, more_than};
@@ -19,14 +19,14 @@ use list_form::{Node, read_node};
 use list_leaf::{Limit, leaf_closes, open_cells};
 use parts::{byte, mask2};
 use rows::{Row, cell_count, row_at};
+use std::array;
 use tables::Side;
 
-// A node under the limits on its way: a leaf that closes, with the place where it ends; a split that fits; or neither, which is 19.
+// A node that fits under the limits on its way: a leaf that closes, with the place where it ends, or a split. Another is 19.
 #[derive(Clone, Copy)]
 enum Fit {
     Closing(usize),
     Splitting,
-    Unfit,
 }
 
 // The limit that a row is.
@@ -51,13 +51,14 @@ fn row_limits(rows: [Row; 6], k: u8) -> [Limit; 14]
         side: Side::Lower,
         cell: 0,
     };
-    let mut way = [none; 14];
-    let mut i: u8 = 0;
-    while i < k {
-        way[i as usize] = limit_of(row_at(rows, k, i));
-        i += 1;
-    }
-    way
+    array::from_fn(|i| {
+        let i = i as u8;
+        if i < k {
+            limit_of(row_at(rows, k, i))
+        } else {
+            none
+        }
+    })
 }
 
 // The limits that the halves of the split at `at` bring: at most its value,
@@ -97,32 +98,30 @@ fn split_fits(ds: &[u8], marks: &[bool; 64], at: usize) -> bool
     marks[c] & (v <= 1000)
 }
 
-// The node at `at` under `n` limits.
-fn fit_node(ds: &[u8], marks: &[bool; 64], k: u8, way: [Limit; 14], n: u8, at: usize) -> Fit
+// The node at `at` under `n` limits, if it fits.
+fn fit_node(ds: &[u8], marks: &[bool; 64], k: u8, way: [Limit; 14], n: u8, at: usize) -> Option<Fit>
     requires { (k ≤ 6) × (k ≤ n) × (n ≤ 14) × Among k marks.now }
     ensures { (result ≡ fit_node ds.now k (marked marks.now) n (limits_held k way n) at) × (fit_refusal result ≡ unless (is_fit (fit_node ds.now k (marked marks.now) n (limits_held k way n) at)) 19 none) }
 {
-    let node = read_node(ds, n, at);
-    match node {
-        Node::Off => Fit::Unfit,
+    match read_node(ds, n, at)? {
         Node::Leaf(end) => {
             if leaf_closes(way, k, marks, &ds[at + 1..end]) {
-                Fit::Closing(end)
+                Some(Fit::Closing(end))
             } else {
-                Fit::Unfit
+                None
             }
         }
         Node::Split => {
             if split_fits(ds, marks, at) {
-                Fit::Splitting
+                Some(Fit::Splitting)
             } else {
-                Fit::Unfit
+                None
             }
         }
     }
 }
 
-// Where the tree at `at` ends, if it closes under `n` limits, with at most `left` splits above a leaf; 0 if it does not.
+// Where the tree at `at` ends, if it closes under `n` limits, with at most `left` splits above a leaf.
 fn closes_at(
     ds: &[u8],
     marks: &[bool; 64],
@@ -131,41 +130,33 @@ fn closes_at(
     way: [Limit; 14],
     n: u8,
     at: usize,
-) -> usize
+) -> Option<usize>
     requires { (k ≤ 6) × (k ≤ n) × (n + left ≤ 14) × (length way ≡ 14) × Among k marks.now }
     ensures { result ≡ end_of (closed_in ds.now k (marked marks.now) left n (limits_held k way n) at) }
 {
-    let node = fit_node(ds, marks, k, way, n, at);
-    match node {
-        Fit::Unfit => 0,
-        Fit::Closing(end) => end,
+    match fit_node(ds, marks, k, way, n, at)? {
+        Fit::Closing(end) => Some(end),
         Fit::Splitting => {
             if left == 0 {
-                return 0;
+                return None;
             }
             let mut path = way;
             path[n as usize] = low_half(ds, at);
-            let next = closes_at(ds, marks, k, left - 1, path, n + 1, at + 4);
-            if next == 0 {
-                return 0;
-            }
+            let next = closes_at(ds, marks, k, left - 1, path, n + 1, at + 4)?;
             path[n as usize] = high_half(ds, at);
             closes_at(ds, marks, k, left - 1, path, n + 1, next)
         }
     }
 }
 
-// Where the tree ends whose root at `at` is a split that fits under the `k` rows, if it closes; 0 if it does not.
-fn halves_close(ds: &[u8], marks: &[bool; 64], k: u8, way: [Limit; 14], at: usize) -> usize
-    requires { (k ≤ 6) × (length way ≡ 14) × Among k marks.now × (Splitting ≡ fit_node ds.now k (marked marks.now) k (limits_held k way k) at) }
+// Where the tree ends whose root at `at` is a split that fits under the `k` rows, if it closes.
+fn halves_close(ds: &[u8], marks: &[bool; 64], k: u8, way: [Limit; 14], at: usize) -> Option<usize>
+    requires { (k ≤ 6) × (length way ≡ 14) × Among k marks.now × (Some Splitting ≡ fit_node ds.now k (marked marks.now) k (limits_held k way k) at) }
     ensures { result ≡ end_of (closed_in ds.now k (marked marks.now) 8 k (limits_held k way k) at) }
 {
     let mut path = way;
     path[k as usize] = low_half(ds, at);
-    let next = closes_at(ds, marks, k, 7, path, k + 1, at + 4);
-    if next == 0 {
-        return 0;
-    }
+    let next = closes_at(ds, marks, k, 7, path, k + 1, at + 4)?;
     path[k as usize] = high_half(ds, at);
     closes_at(ds, marks, k, 7, path, k + 1, next)
 }
@@ -186,10 +177,9 @@ pub fn tree_closes(rows: [Row; 6], k: u8, ds: &[u8]) -> bool
     let marks = open_cells(&ds[from..start], k);
     // The root is looked at here too, so that a leaf's sums lie once above the deepest split and not on every level (docs/COST.md);
     // and split here, so that the deepest tree takes one level less.
-    let root = fit_node(ds, &marks, k, way, k, start);
-    match root {
-        Fit::Unfit => false,
-        Fit::Closing(end) => 0 < end,
-        Fit::Splitting => 0 < halves_close(ds, &marks, k, way, start),
+    match fit_node(ds, &marks, k, way, k, start) {
+        None => false,
+        Some(Fit::Closing(_)) => true,
+        Some(Fit::Splitting) => halves_close(ds, &marks, k, way, start).is_some(),
     }
 }

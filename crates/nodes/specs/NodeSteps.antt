@@ -192,3 +192,15 @@ of_both_lem p (at_least r l n) = refl
 
 pub both_read : (cs : List ℕ) (p : ℕ → ℕ → Bool) (e : ℕ) (c : Concept) → c ≡ concept_at cs e → of_both p c ≡ if_both (λ a b. p (code a) (code b)) (entry_of_fields (fields_at cs e))
 both_read cs p e c q = ap (of_both p) q ∙ of_both_lem p (entry_of_fields (fields_at cs e))
+
+no_both : (p : ℕ → ℕ → Bool) (c : Concept) → ((a b : ℕ) → c ≡ Both a b → ⊥) → true ≡ of_both p c
+no_both p Top h = refl
+no_both p Name h = refl
+no_both p (Both a b) h = absurd (h a b refl)
+no_both p (Every r l) h = refl
+no_both p (AtLeast m) h = refl
+
+-- and on one that is no "both"
+pub other_read : (cs : List ℕ) (p : ℕ → ℕ → Bool) (e : ℕ) (c : Concept) → c ≡ concept_at cs e → ((a b : ℕ) → c ≡ Both a b → ⊥)
+    → true ≡ if_both (λ a b. p (code a) (code b)) (entry_of_fields (fields_at cs e))
+other_read cs p e c q h = no_both p c h ∙ both_read cs p e c q

@@ -22,12 +22,9 @@ pub fn opposite(l: u8) -> u8
 fn with_rules(qs: &[u8], x: Label) -> Label
     ensures { value_of result ≡ with_rules qs.now (length qs.now - 1) (value_of x) }
 {
-    let n = qs.len();
     let mut y = x;
-    let mut i: usize = 0;
-    while i + 1 < n {
-        y = put(y, byte(qs, i + 1));
-        i += 1;
+    for i in 1..qs.len() {
+        y = put(y, qs[i]);
     }
     y
 }
@@ -72,13 +69,9 @@ fn both_at(cs: &[u8], x: Label, e: EntryNo) -> bool
     requires { e.0 < most_entries }
     ensures { result ≡ both_at cs.now (value_of x) e.0 }
 {
-    let c = concept_at(cs, e);
-    match c {
+    match concept_at(cs, e) {
         Concept::Both(a, b) => parts_in(x, e, a, b),
-        Concept::Top => true,
-        Concept::Name => true,
-        Concept::Every(_, _) => true,
-        Concept::AtLeast(_) => true,
+        _ => true,
     }
 }
 
@@ -86,13 +79,5 @@ fn both_at(cs: &[u8], x: Label, e: EntryNo) -> bool
 pub fn boths_ok(cs: &[u8], x: Label) -> bool
     ensures { result ≡ all_below (entry_count cs.now) (both_at cs.now (value_of x)) }
 {
-    let n = entry_count(cs);
-    let mut e: u8 = 0;
-    while e < n {
-        if !both_at(cs, x, EntryNo(e)) {
-            return false;
-        }
-        e += 1;
-    }
-    true
+    (0..entry_count(cs)).all(|e| both_at(cs, x, EntryNo(e)))
 }

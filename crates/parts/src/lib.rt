@@ -5,13 +5,6 @@ ghost use Rattle.std.specs.Prelude.{◌≡◌, ◌<◌, ◌≤◌, take, drop};
 ghost use Rattle.parts.specs.Numbers.{byte_at, num2, up_to};
 ghost use Rattle.parts.specs.Pairs.{fills, part_at};
 
-// A byte as a number of 16 bits.
-fn wide(x: u8) -> u16
-    ensures { (result ≡ x) × (result < 256) }
-{
-    x as u16
-}
-
 // The byte at `at`, or 0 past the end.
 pub fn byte(s: &[u8], at: usize) -> u8
     ensures { result ≡ byte_at s.now at }
@@ -24,7 +17,8 @@ pub fn mask2(s: &[u8], at: usize) -> u16
     ensures { result ≡ num2 s.now at }
 {
     if at < s.len() {
-        wide(s[at]) * 256 + wide(byte(s, at + 1))
+        // The library's from_be_bytes was tried: each read takes two instructions more with it.
+        u16::from(s[at]) * 256 + u16::from(byte(s, at + 1))
     } else {
         0
     }
@@ -34,18 +28,14 @@ pub fn mask2(s: &[u8], at: usize) -> u16
 pub fn read2(s: &[u8], at: usize) -> usize
     ensures { (result ≡ num2 s.now at) × (result < 65536) }
 {
-    mask2(s, at) as usize
+    usize::from(mask2(s, at))
 }
 
 // The number `n`, or `most` if it is more.
 pub fn up_to(most: u8, n: usize) -> u8
     ensures { (result ≡ up_to most n) × (result ≤ most) }
 {
-    if n < (most as usize) {
-        (n % 256) as u8
-    } else {
-        most
-    }
+    n.min(usize::from(most)) as u8
 }
 
 // Whether the `count` pairs at `at` fill the slice from `first`.
@@ -58,13 +48,11 @@ pub fn pairs_fill(s: &[u8], at: u8, count: u8, first: u16) -> bool
         return false;
     }
     let mut next = first as usize;
-    let mut i = 0;
-    while i < n {
+    for i in 0..n {
         if read2(s, start + 4 * i) != next {
             return false;
         }
         next += read2(s, start + 4 * i + 2);
-        i += 1;
     }
     next == s.len()
 }

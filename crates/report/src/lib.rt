@@ -8,7 +8,7 @@ ghost use Rattle.report.specs.Cut.{longest};
 ghost use Rattle.laying.specs.Laying.{laid};
 ghost use Rattle.report.specs.Text.{text_of, Over, Digits};
 
-use answers::Verdict;
+use answers::{Refusal, Verdict};
 use laying::copy_bytes;
 use parts::{read2, span};
 
@@ -64,14 +64,14 @@ fn lay_number(out: &mut [u8], at: usize, n: u8) -> usize
 }
 
 // Lays the line of a refusal and returns its length.
-fn lay_refusal(out: &mut [u8], number: u8, place: u8) -> usize
+fn lay_refusal(out: &mut [u8], r: Refusal) -> usize
     requires { 16 ≤ length out.old }
-    ensures { Over (text_of (of_verdict (Verdict.Refused number place))) out.old out.new result }
+    ensures { Over (text_of (of_verdict (Verdict.Refused r))) out.old out.new result }
 {
     let a = lay(out, 0, b"REFUSED ");
-    let b = lay_number(out, a, number);
+    let b = lay_number(out, a, r.reason.number());
     let c = lay(out, b, b" ");
-    let d = lay_number(out, c, place);
+    let d = lay_number(out, c, r.place);
     lay(out, d, b"\n")
 }
 
@@ -85,6 +85,6 @@ pub fn write_answer(v: Verdict, out: &mut [u8; 16]) -> usize
     match v {
         Verdict::Inhabited => lay(out, 0, b"INHABITED 0 0\n"),
         Verdict::Empty => lay(out, 0, b"EMPTY 0 0\n"),
-        Verdict::Refused(number, place) => lay_refusal(out, number, place),
+        Verdict::Refused(r) => lay_refusal(out, r),
     }
 }

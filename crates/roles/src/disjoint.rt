@@ -5,6 +5,7 @@ ghost use Rattle.parts.specs.Numbers.{up_to};
 ghost use Rattle.roles.specs.Disjoint.{disjoint_count, role_bit, pair_mask, records_by, compatible_by};
 
 use parts::{byte, up_to};
+use words::Bits;
 
 // The number of records of the part `ps`, or 16 if there are more.
 pub fn disjoint_count(ps: &[u8]) -> u8
@@ -28,13 +29,6 @@ pub(crate) fn pair_mask(ps: &[u8], i: u8) -> u16
     role_bit(byte(ps, at)) | role_bit(byte(ps, at + 1))
 }
 
-// Whether the mask `x` lies within `y`.
-pub fn within16(x: u16, y: u16) -> bool
-    ensures { result ≡ within x y }
-{
-    x & y == x
-}
-
 // So many records, or 16 if there are more.
 fn few(n: u16) -> u8
     ensures { (result ≡ up_to 16 n) × (result ≤ 16) }
@@ -53,13 +47,11 @@ pub fn no_records(a: &[u16; 49]) -> bool
 pub fn compatible(a: &[u16; 49], m: u16) -> bool
     ensures { result ≡ compatible_by a.now m }
 {
-    let n = few(a[48]);
-    let mut i: u8 = 0;
-    while i < n {
-        if within16(a[(32 + i) as usize], m) {
+    // No chain: the compiler takes several records at a time of this loop alone.
+    for i in 0..few(a[48]) {
+        if a[(32 + i) as usize].is_within(m) {
             return false;
         }
-        i += 1;
     }
     true
 }

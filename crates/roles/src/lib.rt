@@ -11,6 +11,8 @@ ghost use Rattle.roles.specs.Records.{record_with, role_table, role_at, carrier,
 
 use disjoint::{disjoint_count, pair_mask};
 use parts::{byte, mask2, up_to};
+use std::array;
+use words::Bits;
 
 // A role in working memory: its two fields of the description, the roles that it is included in by any number of steps, itself among
 // them, and whether no transitive role is included in it.
@@ -20,24 +22,6 @@ pub struct Role {
     pub parents: u16,
     pub ancestors: u16,
     pub simple: bool,
-}
-
-// Whether the mask holds `i`.
-pub fn has16(x: u16, i: u8) -> bool
-    ensures { result ≡ has x i }
-{
-    (i < 16) & ((x >> (i % 16)) % 2 == 1)
-}
-
-// Whether the mask holds numbers below `n` alone.
-pub fn fits16(x: u16, n: usize) -> bool
-    ensures { result ≡ narrow x n }
-{
-    if n < 16 {
-        (x as usize) < (1 << n)
-    } else {
-        true
-    }
 }
 
 // The mask of role `i` with itself and its parents.
@@ -52,20 +36,14 @@ fn own_mask(rs: &[u8], i: usize) -> u16
 fn join(x: u16, y: u16, k: u8) -> u16
     ensures { result ≡ joined x y k }
 {
-    if has16(x, k) { x | y } else { x }
+    if x.has(k) { x | y } else { x }
 }
 
 // Each role with itself and its parents.
 fn start(rs: &[u8]) -> [u16; 16]
     ensures { (m : ℕ) → m < 16 → get_or result m 0 ≡ passed rs.now 0 m }
 {
-    let mut out = [0; 16];
-    let mut i = 0;
-    while i < 16 {
-        out[i] = own_mask(rs, i);
-        i += 1;
-    }
-    out
+    array::from_fn(|i| own_mask(rs, i))
 }
 
 // Each mask that holds `k` joined with the mask of `k`.
@@ -74,13 +52,7 @@ fn pass(a: [u16; 16], k: u8) -> [u16; 16]
     ensures { (m : ℕ) → m < 16 → get_or result m 0 ≡ joined (get_or a m 0) (get_or a k 0) k }
 {
     let row = a[k as usize];
-    let mut out = a;
-    let mut i = 0;
-    while i < 16 {
-        out[i] = join(a[i], row, k);
-        i += 1;
-    }
-    out
+    array::from_fn(|i| join(a[i], row, k))
 }
 
 // The number of roles of the part `rs`, or 16 if there are more.
@@ -103,11 +75,10 @@ fn ancestors(rs: &[u8]) -> [u16; 16]
 {
     let n = role_count(rs);
     let mut a = start(rs);
-    let mut k: u8 = 0;
-    while k < n {
+    for k in 0..n {
+        // No proof is made of `a = pass(a, k)`.
         let next = pass(a, k);
         a = next;
-        k += 1;
     }
     a
 }
@@ -118,10 +89,8 @@ fn complex_roles(rs: &[u8], a: [u16; 16]) -> u16
 {
     let n = role_count(rs) as usize;
     let mut out: u16 = 0;
-    let mut t = 0;
-    while t < n {
+    for t in 0..n {
         out = with_ancestors(out, a[t], byte(rs, 3 * t));
-        t += 1;
     }
     out
 }
@@ -135,7 +104,7 @@ fn role_record(rs: &[u8], i: u8, above: u16, complex: u16) -> Role
         transitive: byte(rs, at),
         parents: mask2(rs, at + 1),
         ancestors: above,
-        simple: !has16(complex, i),
+        simple: !complex.has(i),
     }
 }
 
@@ -145,19 +114,7 @@ pub fn role_table(rs: &[u8]) -> [Role; 16]
 {
     let a = ancestors(rs);
     let complex = complex_roles(rs, a);
-    let none = Role {
-        transitive: 0,
-        parents: 0,
-        ancestors: 0,
-        simple: false,
-    };
-    let mut out = [none; 16];
-    let mut i: u8 = 0;
-    while i < 16 {
-        out[i as usize] = role_record(rs, i, a[i as usize], complex);
-        i += 1;
-    }
-    out
+    array::from_fn(|i| role_record(rs, i as u8, a[i], complex))
 }
 
 // The ancestors of a transitive role; of another, none.
@@ -168,23 +125,21 @@ fn carrier_of(x: Role) -> u16
 }
 
 // Mask `i` of those that role records give.
-fn role_mask(t: [Role; 16], i: u8) -> u16
+fn role_mask(t: &[Role; 16], i: u8) -> u16
     requires { i < 32 }
-    ensures { result ≡ cond (ltb i 16) (role_at t i).ancestors (carrier (role_at t (i - 16))) }
+    ensures { result ≡ cond (ltb i 16) (role_at t.now i).ancestors (carrier (role_at t.now (i - 16))) }
 {
     if i < 16 {
-        let x = t[i as usize];
-        x.ancestors
+        t[i as usize].ancestors
     } else {
-        let y = t[(i - 16) as usize];
-        carrier_of(y)
+        carrier_of(t[(i - 16) as usize])
     }
 }
 
 // Mask `i` of those that evidence asks for.
-fn mask_of(t: [Role; 16], ps: &[u8], i: u8) -> u16
+fn mask_of(t: &[Role; 16], ps: &[u8], i: u8) -> u16
     requires { i < 49 }
-    ensures { result ≡ mask_of t ps.now i }
+    ensures { result ≡ mask_of t.now ps.now i }
 {
     if i < 32 {
         return role_mask(t, i);
@@ -197,16 +152,10 @@ fn mask_of(t: [Role; 16], ps: &[u8], i: u8) -> u16
 }
 
 // The masks that evidence asks for: the ancestors of each role; behind them those of each transitive role, none for the others; then the two
-// roles of each record of the part `ps`; last the number of these records. An array of numbers can be lent; a table of records would be
-// copied for each call.
-pub fn role_masks(t: [Role; 16], ps: &[u8]) -> [u16; 49]
-    ensures { result ≡ role_masks t ps.now }
+// roles of each record of the part `ps`; last the number of these records. One array of numbers: the theorems on it read it by these
+// places (`masks_above`, `masks_carried`, `masks_disjoint`).
+pub fn role_masks(t: &[Role; 16], ps: &[u8]) -> [u16; 49]
+    ensures { result ≡ role_masks t.now ps.now }
 {
-    let mut out: [u16; 49] = [0; 49];
-    let mut i: u8 = 0;
-    while i < 49 {
-        out[i as usize] = mask_of(t, ps, i);
-        i += 1;
-    }
-    out
+    array::from_fn(|i| mask_of(t, ps, i as u8))
 }

@@ -1,8 +1,10 @@
 -- Laws of the rows that the code holds.
-use Rattle.std.specs.Prelude.{ℕ, zero, suc, ◌+◌, ◌-◌, ◌<◌, ◌≤◌, ◌≡◌, refl, List, [], ◌∷◌, get_or, take, replicate}
+use Rattle.std.specs.Prelude as Rust
+use Rattle.std.specs.Prelude.{Some, None, ℕ, zero, suc, ◌+◌, ◌-◌, ◌<◌, ◌≤◌, ◌≡◌, refl, List, [], ◌∷◌, cond, ltb, length, get_or, take}
 use Rattle.std.proofs.Common.{sym, ◌∙◌, ap, ap₂, arith, lt-ltb, le-ltb, get_or-take}
 use Rattle.std.proofs.Math.Option.{Option, none, some}
 use Rattle.std.proofs.Math.Decide.{dec_lt}
+use Rattle.std.proofs.Math.ListN.{get_or-eq_default}
 use Rattle.logic.specs.Lists.{tabulate}
 use Rattle.logic.specs.Refusals.{unless}
 use Rattle.parts.specs.Numbers.{byte_at, up_to_all}
@@ -14,21 +16,17 @@ use Rattle.refutation.specs.Cells.{row_of, row_from, rows_of}
 use Rattle.tables.specs.Tables.{fields_at, describe}
 use Rattle.tables.specs.Concepts.{concept_of, bound_in, complement_of, literal_concept, bound_of}
 use Rattle.tables.specs.declared.LiteralConcept.{LiteralConcept}
-use Rattle.tables.specs.declared.LiteralConcept.TheVariants as LiteralConcept
 use Rattle.tables.specs.declared.Concept.{Concept}
 use Rattle.tables.specs.declared.Concept.TheVariants.{Every, AtLeast}
 use Rattle.tables.specs.declared.Count.{Count}
 use Rattle.tables.specs.declared.RoleNo.{RoleNo}
 use Rattle.nodes.specs.NodeSteps.{opposed}
 use Rattle.list_form.specs.ListForm.{bytes_at}
-use Rattle.tables.specs.declared.Side.{Side}
 use Rattle.tables.specs.declared.Side.TheVariants.{Lower}
 use Rattle.rows.specs.declared.Row.{Row}
-use Rattle.rows.specs.declared.RowOf.{RowOf}
-use Rattle.rows.specs.declared.RowOf.TheVariants.{Is, Nothing}
 use Rattle.rows.specs.HeldRows.{without_roles, held_side, side_of, held, given, held_row, row_refusal, there, no_row, held_at, first_at, rows_held, row_in, count_row, some_row, concept_row}
 
-row_told : (o : Option Theory.Row) (x : RowOf) → x ≡ held_row o → (x ≡ held_row o) × (row_refusal x ≡ unless (there o) 17 none)
+row_told : (o : Option Theory.Row) (x : Rust.Option Row) → x ≡ held_row o → (x ≡ held_row o) × (row_refusal x ≡ unless (there o) 17 none)
 row_told none x e = (e, ap row_refusal e)
 row_told (some R) x e = (e, ap row_refusal e)
 
@@ -64,7 +62,7 @@ concept_row_lem cs (neg e) = go (entry_of_fields (fields_at cs e))
     go (every r l) = rw (literal_code l) refl
     go (at_least r l n) = refl
 
-pub row_read : (cs : List ℕ) (l : ℕ) (x : RowOf) (c d : LiteralConcept) → c ≡ literal_concept cs (literal l) → c ≡ d → x ≡ concept_row d
+pub row_read : (cs : List ℕ) (l : ℕ) (x : Rust.Option Row) (c d : LiteralConcept) → c ≡ literal_concept cs (literal l) → c ≡ d → x ≡ concept_row d
     → (x ≡ held_row (row_of (without_roles cs []) (literal l)))
     × (row_refusal x ≡ unless (there (row_of (without_roles cs []) (literal l))) 17 none)
 row_read cs l x c d p q e = row_told (row_of (without_roles cs []) (literal l)) x (e ∙ ap concept_row (sym q ∙ p) ∙ concept_row_lem cs (literal l))
@@ -76,10 +74,10 @@ bound_few c d h e = rw e at h
 pub count_few : (c : Concept) (m : Count) → bound_in c < 65536 → c ≡ AtLeast m → m.bound < 65536
 count_few c m h e = rw e at h
 
-pub count_made : (m : Count) (n : ℕ) → n ≡ m.bound → Is (record { role = m.role; qualifier = m.literal; bound = n; side = m.side }) ≡ count_row (AtLeast m)
+pub count_made : (m : Count) (n : ℕ) → n ≡ m.bound → Some (record { role = m.role; qualifier = m.literal; bound = n; side = m.side }) ≡ count_row (AtLeast m)
 count_made m n e = rw e refl
 
-pub some_made : (r : RoleNo) (l q : ℕ) → q ≡ opposed l → Is (record { role = r; qualifier = q; bound = 1; side = Lower }) ≡ some_row (Every r l)
+pub some_made : (r : RoleNo) (l q : ℕ) → q ≡ opposed l → Some (record { role = r; qualifier = q; bound = 1; side = Lower }) ≡ some_row (Every r l)
 some_made r l q e = rw e refl
 
 -- row i of the step, where its literal gives a row, and where it gives none
@@ -90,17 +88,17 @@ module _ (cs ds : List ℕ) (i l : ℕ) (p : l ≡ byte_at ds (2 + i)) where
   at_step : held (row_from found) ≡ row_in cs ds i
   at_step = ap (λ m. held (row_from (row_of (without_roles cs []) (literal m)))) p
 
-  pub in_row : (y : RowOf) (x : Row) → y ≡ held_row found → y ≡ Is x → x ≡ row_in cs ds i
+  pub in_row : (y : Rust.Option Row) (x : Row) → y ≡ held_row found → y ≡ Some x → x ≡ row_in cs ds i
   in_row y x e q = is found (sym q ∙ e) ∙ at_step
     where
-      is : (o : Option Theory.Row) → Is x ≡ held_row o → x ≡ held (row_from o)
+      is : (o : Option Theory.Row) → Some x ≡ held_row o → x ≡ held (row_from o)
       is none e = absurd (let z : ◌≡◌ {A = ℕ} 0 1 = cc in omega arith)
       is (some R) e = cc
 
-  pub in_none : (y : RowOf) → y ≡ held_row found → y ≡ Nothing → no_row ≡ row_in cs ds i
+  pub in_none : (y : Rust.Option Row) → y ≡ held_row found → y ≡ None → no_row ≡ row_in cs ds i
   in_none y e q = is found (sym q ∙ e) ∙ at_step
     where
-      is : (o : Option Theory.Row) → Nothing ≡ held_row o → no_row ≡ held (row_from o)
+      is : (o : Option Theory.Row) → None ≡ held_row o → no_row ≡ held (row_from o)
       is none e = refl
       is (some R) e = absurd (let z : ◌≡◌ {A = ℕ} 0 1 = cc in omega arith)
 
@@ -140,14 +138,12 @@ rows_held_lem cs ds rows k few e = go k (λ i. given (held_at rows i)) (λ i. li
     go (suc k) f g h = ap₂ ◌∷◌ (h 0 (omega arith)) (go k (λ i. f (suc i)) (λ i. g (suc i)) (λ i l. h (suc i) (omega arith)))
 
 -- behind the rows that are filled stands none
-pub none_behind : (x : Row) → x ≡ no_row → (m : ℕ) → get_or (replicate 6 x) m no_row ≡ no_row
-none_behind x e zero = e
-none_behind x e (suc zero) = e
-none_behind x e (suc (suc zero)) = e
-none_behind x e (suc (suc (suc zero))) = e
-none_behind x e (suc (suc (suc (suc zero)))) = e
-none_behind x e (suc (suc (suc (suc (suc zero))))) = e
-none_behind x e (suc (suc (suc (suc (suc (suc m)))))) = refl
+pub behind : (f : ℕ → Row) (n : ℕ) (rows : List Row) → length rows ≡ 6 → ((i : ℕ) → i < 6 → get_or rows i no_row ≡ cond (ltb i n) (f i) no_row)
+    → (i : ℕ) → n ≤ i → get_or rows i no_row ≡ no_row
+behind f n rows s made i l = elim (dec_lt i 6) [
+  | yes h ↦ made i h ∙ rw (le-ltb i n l) refl
+  | no h ↦ (let z : length rows ≤ i = omega arith in get_or-eq_default rows no_row z)
+]
 
 pub none_held : (rows : List Row) (i : ℕ) → get_or rows i no_row ≡ no_row → held_at rows i ≡ no_row
 unfolding held_at

@@ -1,5 +1,6 @@
 -- Rows as the code holds them: at most six in an array (01, "The counting step"; FORMAT 6).
-use Rattle.std.specs.Prelude.{ℕ, ◌+◌, Bool, true, false, cond, List, [], ltb, get_or, take}
+use Rattle.std.specs.Prelude as Rust
+use Rattle.std.specs.Prelude.{Some, None, ℕ, ◌+◌, Bool, true, false, cond, List, [], ltb, get_or, take}
 use Rattle.std.proofs.Math.Option.{Option, none, some}
 use Rattle.logic.specs.Lists.{tabulate}
 use Rattle.parts.specs.Numbers.{byte_at, up_to}
@@ -11,15 +12,12 @@ use Rattle.refutation.specs.Cells.{row_of, row_from}
 use Rattle.tables.specs.Tables.{describe}
 use Rattle.tables.specs.declared.LiteralConcept.{LiteralConcept}
 use Rattle.tables.specs.declared.LiteralConcept.TheVariants.{Not}
-use Rattle.tables.specs.declared.LiteralConcept.TheVariants as LiteralConcept
 use Rattle.tables.specs.declared.Concept.{Concept}
 use Rattle.tables.specs.declared.Concept.TheVariants.{Top, Name, Both, Every, AtLeast}
 use Rattle.nodes.specs.NodeSteps.{opposed}
 use Rattle.tables.specs.declared.Side.{Side}
 use Rattle.tables.specs.declared.Side.TheVariants.{Lower, Upper}
 use Rattle.rows.specs.declared.Row.{Row}
-use Rattle.rows.specs.declared.RowOf.{RowOf}
-use Rattle.rows.specs.declared.RowOf.TheVariants.{Is, Nothing}
 
 -- entries and a query without roles: what a step names, and which rows literals give, is told by these alone
 abbrev pub without_roles : List ℕ → List ℕ → Description
@@ -41,14 +39,14 @@ held R = record { role = record { 0 = R.role }; qualifier = code R.qualifier; bo
 abbrev pub given : Row → Theory.Row
 given x = record { role = x.role.0; qualifier = literal x.qualifier; side = side_of x.side; bound = x.bound }
 
-abbrev pub held_row : Option Theory.Row → RowOf
-held_row none = Nothing
-held_row (some R) = Is (held R)
+abbrev pub held_row : Option Theory.Row → Rust.Option Row
+held_row none = None
+held_row (some R) = Some (held R)
 
 -- the paper's number of each case: a literal in a counting step that gives no row is 17
-abbrev pub row_refusal : RowOf → Option ℕ
-row_refusal (Is x) = none
-row_refusal Nothing = some 17
+abbrev pub row_refusal : Rust.Option Row → Option ℕ
+row_refusal (Some x) = none
+row_refusal None = some 17
 
 abbrev pub there : Option Theory.Row → Bool
 there none = false
@@ -74,21 +72,21 @@ abbrev pub row_in : List ℕ → List ℕ → ℕ → Row
 row_in cs ds i = held (row_from (row_of (without_roles cs []) (literal (byte_at ds (2 + i)))))
 
 -- the row that a concept gives: a count its own
-abbrev pub count_row : Concept → RowOf
-count_row Top = Nothing
-count_row Name = Nothing
-count_row (Both a b) = Nothing
-count_row (Every r l) = Nothing
-count_row (AtLeast m) = Is (record { role = m.role; qualifier = m.literal; bound = m.bound; side = m.side })
+abbrev pub count_row : Concept → Rust.Option Row
+count_row Top = None
+count_row Name = None
+count_row (Both a b) = None
+count_row (Every r l) = None
+count_row (AtLeast m) = Some (record { role = m.role; qualifier = m.literal; bound = m.bound; side = m.side })
 
 -- and a denied one: an "every" that of "some"
-abbrev pub some_row : Concept → RowOf
-some_row Top = Nothing
-some_row Name = Nothing
-some_row (Both a b) = Nothing
-some_row (Every r l) = Is (record { role = r; qualifier = opposed l; bound = 1; side = Lower })
-some_row (AtLeast m) = Nothing
+abbrev pub some_row : Concept → Rust.Option Row
+some_row Top = None
+some_row Name = None
+some_row (Both a b) = None
+some_row (Every r l) = Some (record { role = r; qualifier = opposed l; bound = 1; side = Lower })
+some_row (AtLeast m) = None
 
-abbrev pub concept_row : LiteralConcept → RowOf
+abbrev pub concept_row : LiteralConcept → Rust.Option Row
 concept_row (LiteralConcept.Is c) = count_row c
 concept_row (Not c) = some_row c

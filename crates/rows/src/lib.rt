@@ -13,6 +13,7 @@ ghost use Rattle.rows.specs.HeldRows.{without_roles, no_row, held_at, first_at, 
 
 use nodes::opposite;
 use parts::{byte, up_to};
+use std::array;
 use tables::{Concept, LiteralConcept, RoleNo, Side, literal_concept};
 
 #[derive(Clone, Copy)]
@@ -23,18 +24,14 @@ pub struct Row {
     pub side: Side,
 }
 
-// The row that a literal gives, if it gives one.
-#[derive(Clone, Copy)]
-pub enum RowOf {
-    Is(Row),
-    Nothing,
-}
+// From a table: of a power that is made by a shift the compiler makes a shift for each turn of a loop up to it.
+const COUNTS: [usize; 7] = [1, 2, 4, 8, 16, 32, 64];
 
 // The number of cells of `k` rows, or of 6 if there are more; cell 0 too.
 pub fn cell_count(k: u8) -> usize
     ensures { (result ≡ 2 ^ up_to 6 k) × (result ≤ 64) }
 {
-    1 << (up_to(6, k as usize) as usize)
+    COUNTS[up_to(6, k as usize) as usize]
 }
 
 // A two-byte number as a word of two bytes.
@@ -46,7 +43,7 @@ fn narrow(n: usize) -> u16
 }
 
 // The row of a count, on its own side; no other concept that is not denied gives one.
-fn count_row(c: Concept) -> RowOf
+fn count_row(c: Concept) -> Option<Row>
     requires { bound_in c < 65536 }
     ensures { result ≡ count_row c }
 {
@@ -54,40 +51,40 @@ fn count_row(c: Concept) -> RowOf
         Concept::AtLeast(m) => {
             let role = m.role;
             let side = m.side;
-            RowOf::Is(Row {
+            Some(Row {
                 role: role,
                 qualifier: m.literal,
                 bound: narrow(m.bound),
                 side: side,
             })
         }
-        Concept::Top => RowOf::Nothing,
-        Concept::Name => RowOf::Nothing,
-        Concept::Both(_, _) => RowOf::Nothing,
-        Concept::Every(_, _) => RowOf::Nothing,
+        Concept::Top => None,
+        Concept::Name => None,
+        Concept::Both(_, _) => None,
+        Concept::Every(_, _) => None,
     }
 }
 
 // The row of a denied "every": at least one filler has the opposite literal.
-fn some_row(c: Concept) -> RowOf
+fn some_row(c: Concept) -> Option<Row>
     ensures { result ≡ some_row c }
 {
     match c {
-        Concept::Every(role, l) => RowOf::Is(Row {
+        Concept::Every(role, l) => Some(Row {
             role: role,
             qualifier: opposite(l),
             bound: 1,
             side: Side::Lower,
         }),
-        Concept::Top => RowOf::Nothing,
-        Concept::Name => RowOf::Nothing,
-        Concept::Both(_, _) => RowOf::Nothing,
-        Concept::AtLeast(_) => RowOf::Nothing,
+        Concept::Top => None,
+        Concept::Name => None,
+        Concept::Both(_, _) => None,
+        Concept::AtLeast(_) => None,
     }
 }
 
-// The row that literal `l` gives.
-pub fn row_of(cs: &[u8], l: u8) -> RowOf
+// The row that literal `l` gives, if it gives one.
+pub fn row_of(cs: &[u8], l: u8) -> Option<Row>
     ensures { (result ≡ held_row (row_of (without_roles cs.now []) (literal l)))
         × (row_refusal result ≡ unless (there (row_of (without_roles cs.now []) (literal l))) 17 none) }
 {
@@ -115,11 +112,7 @@ fn row_in(cs: &[u8], ds: &[u8], i: usize) -> Row
     requires { i < 6 }
     ensures { result ≡ row_in cs.now ds.now i }
 {
-    let row = row_of(cs, byte(ds, 2 + i));
-    match row {
-        RowOf::Is(found) => found,
-        RowOf::Nothing => no_row(),
-    }
+    row_of(cs, byte(ds, 2 + i)).unwrap_or(no_row())
 }
 
 // The first `k` rows of the step `ds`, or 6 if there are more; none behind them.
@@ -128,13 +121,7 @@ pub fn rows_of(cs: &[u8], ds: &[u8], k: u8) -> [Row; 6]
         × ((i : ℕ) → up_to 6 k ≤ i → held_at result i ≡ no_row) }
 {
     let n = up_to(6, k as usize) as usize;
-    let mut rows = [no_row(); 6];
-    let mut i: usize = 0;
-    while i < n {
-        rows[i] = row_in(cs, ds, i);
-        i += 1;
-    }
-    rows
+    array::from_fn(|i| if i < n { row_in(cs, ds, i) } else { no_row() })
 }
 
 // How many rows are lent.
@@ -144,49 +131,12 @@ fn lent_count(rows: &[Row]) -> usize
     rows.len()
 }
 
-// The role of row `i` of the rows lent.
-fn lent_role(rows: &[Row], i: usize) -> RoleNo
-    requires { i < length rows.now }
-    ensures { result ≡ (get_or rows.now i no_row).role }
-{
-    rows[i].role
-}
-
-// The qualifier of row `i` of the rows lent.
-fn lent_qualifier(rows: &[Row], i: usize) -> u8
-    requires { i < length rows.now }
-    ensures { result ≡ (get_or rows.now i no_row).qualifier }
-{
-    rows[i].qualifier
-}
-
-// The bound of row `i` of the rows lent.
-fn lent_bound(rows: &[Row], i: usize) -> u16
-    requires { i < length rows.now }
-    ensures { result ≡ (get_or rows.now i no_row).bound }
-{
-    rows[i].bound
-}
-
-// The side of row `i` of the rows lent.
-fn lent_side(rows: &[Row], i: usize) -> Side
-    requires { i < length rows.now }
-    ensures { result ≡ (get_or rows.now i no_row).side }
-{
-    rows[i].side
-}
-
 // Row `i` of the rows lent, none past them.
 fn lent_row(rows: &[Row], i: usize) -> Row
     ensures { result ≡ get_or rows.now i no_row }
 {
     if i < lent_count(rows) {
-        Row {
-            role: lent_role(rows, i),
-            qualifier: lent_qualifier(rows, i),
-            bound: lent_bound(rows, i),
-            side: lent_side(rows, i),
-        }
+        rows[i]
     } else {
         no_row()
     }

@@ -1,41 +1,20 @@
 // The editor for programs in C: the caller lends the state as bytes, and each call changes what it changes there.
 ghost use Rattle.std.specs.Prelude.{◌≡◌};
-ghost use Rattle.answers.specs.Answers.{of_change, of_output};
 ghost use Rattle.editing.specs.Editing.{new_role, inclusion, new_root, new_rule};
-ghost use Rattle.shq_c.specs.Packed.{packed};
 ghost use Rattle.shq_c.specs.Edits.{concept_of, Starts, Edits, Writes};
 
-use super::refused;
-use answers::{Change, Output};
+use super::packed;
 use edit_judge::{put_concept, put_inclusion};
 use edit_state::{clear, put_role, put_root, put_rule};
 use edit_write::write_state;
 use tables::{Fields, RoleNo};
-
-fn of_change(a: Change) -> u32
-    ensures { result ≡ packed (of_change a) }
-{
-    match a {
-        Change::Done => 458752,
-        Change::Refused(n, i) => refused(n, i),
-    }
-}
-
-fn of_output(w: Output) -> u32
-    ensures { result ≡ packed (of_output w) }
-{
-    match w {
-        Output::Bytes(_) => 196608,
-        Output::Refused(n, i) => refused(n, i),
-    }
-}
 
 // Nothing is put in.
 #[unsafe(no_mangle)]
 pub extern "C" fn shq_edit_start(state: &mut [u8]) -> u32
     ensures { Starts state.old result state.new }
 {
-    of_change(clear(state))
+    packed(clear(state))
 }
 
 // Adds a role.
@@ -43,7 +22,7 @@ pub extern "C" fn shq_edit_start(state: &mut [u8]) -> u32
 pub extern "C" fn shq_edit_role(state: &mut [u8], transitive: u8) -> u32
     ensures { Edits (new_role transitive) state.old result state.new }
 {
-    of_change(put_role(state, transitive))
+    packed(put_role(state, transitive))
 }
 
 // Adds the inclusion of a role in its parent.
@@ -51,7 +30,7 @@ pub extern "C" fn shq_edit_role(state: &mut [u8], transitive: u8) -> u32
 pub extern "C" fn shq_edit_inclusion(state: &mut [u8], role: u8, parent: u8) -> u32
     ensures { Edits (inclusion role parent) state.old result state.new }
 {
-    of_change(put_inclusion(state, RoleNo(role), RoleNo(parent)))
+    packed(put_inclusion(state, RoleNo(role), RoleNo(parent)))
 }
 
 // Adds a concept.
@@ -67,13 +46,13 @@ pub extern "C" fn shq_edit_concept(
     ensures { Edits (concept_of kind role first second number) state.old result state.new }
 {
     let f = Fields {
-        kind: kind,
-        role: role,
-        first: first,
-        second: second,
-        number: number as usize,
+        kind,
+        role,
+        first,
+        second,
+        number: usize::from(number),
     };
-    of_change(put_concept(state, f))
+    packed(put_concept(state, f))
 }
 
 // Sets the root.
@@ -81,7 +60,7 @@ pub extern "C" fn shq_edit_concept(
 pub extern "C" fn shq_edit_root(state: &mut [u8], literal: u8) -> u32
     ensures { Edits (new_root literal) state.old result state.new }
 {
-    of_change(put_root(state, literal))
+    packed(put_root(state, literal))
 }
 
 // Adds a rule.
@@ -89,7 +68,7 @@ pub extern "C" fn shq_edit_root(state: &mut [u8], literal: u8) -> u32
 pub extern "C" fn shq_edit_rule(state: &mut [u8], literal: u8) -> u32
     ensures { Edits (new_rule literal) state.old result state.new }
 {
-    of_change(put_rule(state, literal))
+    packed(put_rule(state, literal))
 }
 
 // Writes the description out; on a refusal no byte of the buffer changes.
@@ -97,5 +76,5 @@ pub extern "C" fn shq_edit_rule(state: &mut [u8], literal: u8) -> u32
 pub extern "C" fn shq_edit_write(state: &[u8], buffer: &mut [u8]) -> u32
     ensures { Writes state.now buffer.old result buffer.new }
 {
-    of_output(write_state(state, buffer))
+    packed(write_state(state, buffer))
 }

@@ -4,24 +4,25 @@
 pub mod edit;
 
 ghost use Rattle.std.specs.Prelude.{◌≡◌, ◌+◌, ◌*◌, length};
-ghost use Rattle.answers.specs.Answers.{of_verdict, of_judgement, of_written, of_reading};
+ghost use Rattle.answers.specs.Answers.{Word, WRITTEN, DONE, of_verdict, told_by, judgement_word, reading_word};
+ghost use Rattle.answers.specs.Reasons.{number_of};
 ghost use Rattle.verdict.specs.Verdict.{verdict};
 ghost use Rattle.claims.specs.Claims.{claim_answer};
 ghost use Rattle.line_writer.specs.Writing.{write_answer, buffer_after};
 ghost use Rattle.line_reader.specs.Reading.{read_answer};
-ghost use Rattle.shq_c.specs.Packed.{packed};
+ghost use Rattle.shq_c.specs.Packed.{word_no, packed};
 
-use answers::{Judgement, Reading, Verdict, Written};
+use answers::{Judgement, Reading, Refusal, Verdict};
 use claims::check_claim;
 use line_reader::read_interpretation;
 use line_writer::write_interpretation;
 use verdict::check_evidence;
 
 // A refusal's number and record; the word REFUSED is 0.
-fn refused(number: u8, place: u8) -> u32
-    ensures { result ≡ number * 256 + place }
+fn refused(r: Refusal) -> u32
+    ensures { result ≡ number_of r.reason * 256 + r.place }
 {
-    (number as u32) * 256 + (place as u32)
+    u32::from(r.reason.number()) * 256 + u32::from(r.place)
 }
 
 fn of_verdict(v: Verdict) -> u32
@@ -30,37 +31,67 @@ fn of_verdict(v: Verdict) -> u32
     match v {
         Verdict::Inhabited => 65536,
         Verdict::Empty => 131072,
-        Verdict::Refused(n, i) => refused(n, i),
+        Verdict::Refused(r) => refused(r),
     }
 }
 
-fn of_judgement(v: Judgement) -> u32
-    ensures { result ≡ packed (of_judgement v) }
-{
-    match v {
-        Judgement::Holds => 262144,
-        Judgement::Fails => 327680,
-        Judgement::HoldsOfNothing => 393216,
-        Judgement::Refused(n, i) => refused(n, i),
+// What an answer that nothing refuses says, in one of the words.
+trait Told: Copy {
+    ghost word: { Self → Word };
+
+    // The word's number, above the two bytes of a refusal.
+    fn code(self) -> u32
+        ensures { result ≡ word_no (word self) * 65536 };
+}
+
+impl Told for Judgement {
+    ghost word = { judgement_word };
+
+    fn code(self) -> u32 {
+        match self {
+            Judgement::Holds => 262144,
+            Judgement::Fails => 327680,
+            Judgement::HoldsOfNothing => 393216,
+        }
     }
 }
 
-fn of_written(w: Written) -> u32
-    ensures { result ≡ packed (of_written w) }
-{
-    match w {
-        Written::Line(_) => 196608,
-        Written::Refused(n, i) => refused(n, i),
+impl Told for Reading {
+    ghost word = { reading_word };
+
+    fn code(self) -> u32 {
+        match self {
+            Reading::Holds => 262144,
+            Reading::Fails => 327680,
+        }
     }
 }
 
-fn of_reading(q: Reading) -> u32
-    ensures { result ≡ packed (of_reading q) }
+// A writer's answer: how many bytes it wrote.
+impl Told for usize {
+    ghost word = { λ n. WRITTEN };
+
+    fn code(self) -> u32 {
+        196608
+    }
+}
+
+// The answer of an operation.
+impl Told for () {
+    ghost word = { λ x. DONE };
+
+    fn code(self) -> u32 {
+        458752
+    }
+}
+
+// An answer as one number: that of its word, or a refusal's number and record.
+fn packed<A: Told>(answer: Result<A, Refusal>) -> u32
+    ensures { result ≡ packed (told_by A.word answer) }
 {
-    match q {
-        Reading::Holds => 262144,
-        Reading::Fails => 327680,
-        Reading::Refused(n, i) => refused(n, i),
+    match answer {
+        Ok(x) => x.code(),
+        Err(r) => refused(r),
     }
 }
 
@@ -77,7 +108,7 @@ pub extern "C" fn shq_check(description: &[u8], evidence: &[u8]) -> u32
 pub extern "C" fn shq_claim(description: &[u8], c: u8, d: u8, first: &[u8], second: &[u8]) -> u32
     ensures { result ≡ packed (claim_answer description.now c d first.now second.now) }
 {
-    of_judgement(check_claim(description, c, d, first, second))
+    packed(check_claim(description, c, d, first, second))
 }
 
 // The line of a graph, written into the buffer; on a refusal no byte of it changes.
@@ -85,7 +116,7 @@ pub extern "C" fn shq_claim(description: &[u8], c: u8, d: u8, first: &[u8], seco
 pub extern "C" fn shq_write(description: &[u8], evidence: &[u8], buffer: &mut [u8]) -> u32
     ensures { (result ≡ packed (write_answer description.now evidence.now (length buffer.old))) × (buffer.new ≡ buffer_after description.now evidence.now buffer.old) }
 {
-    of_written(write_interpretation(description, evidence, buffer))
+    packed(write_interpretation(description, evidence, buffer))
 }
 
 // The direct reading of a line.
@@ -93,5 +124,5 @@ pub extern "C" fn shq_write(description: &[u8], evidence: &[u8], buffer: &mut [u
 pub extern "C" fn shq_read(description: &[u8], line: &[u8]) -> u32
     ensures { result ≡ packed (read_answer description.now line.now) }
 {
-    of_reading(read_interpretation(description, line))
+    packed(read_interpretation(description, line))
 }

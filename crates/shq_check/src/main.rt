@@ -1,30 +1,16 @@
 // Reads a description's length in two bytes, the description and evidence from standard input, and prints verdict, number and record.
 #![tactic(auto)]
 
-ghost use Rattle.std.specs.Prelude.{◌≡◌, ◌≤◌, length, take, IfOk};
+ghost use Rattle.std.specs.Prelude.{◌≡◌, ◌≤◌, length, take};
 ghost use Rattle.report.specs.Cut.{answer_to};
 ghost use Rattle.report.specs.Text.{text_of};
 ghost use Rattle.answers.specs.Answers.{over};
 
+use input::read_full;
 use report::{description_part, evidence_part, input_space, write_answer};
 use std::io;
-use std::io::{Read, Write};
+use std::io::Write;
 use verdict::check_evidence;
-
-// Fills the space with what the reader gives, until it is full or the input ends, and returns the number of bytes.
-fn read_full<R: Read>(from: &mut R, space: &mut [u8]) -> io::Result<usize>
-    ensures { IfOk result (λ n. n ≤ length space.new) }
-{
-    let mut n = 0;
-    for _ in 0..space.len() {
-        let k = from.read(&mut space[n..])?;
-        if k == 0 {
-            break;
-        }
-        n += k;
-    }
-    Ok(n)
-}
 
 // Lays the line of the answer to an input, and returns its length.
 fn answer(input: &[u8], line: &mut [u8; 16]) -> usize

@@ -1,14 +1,11 @@
 -- The test of an entry by its fields says what the rule says.
-use Rattle.std.specs.Prelude.{ℕ, zero, suc, ◌+◌, ◌-◌, ◌*◌, ◌/◌, ◌<◌, ◌≡◌, refl, ◌↔◌, Bool, true, false, ◌&&◌, List, [], eqb, leb, ltb, length}
-use Rattle.std.proofs.Common.{sym, subst, arith}
+use Rattle.std.specs.Prelude.{ℕ, zero, suc, ◌*◌, ◌<◌, refl, ◌↔◌}
+use Rattle.std.proofs.Common.{sym, subst}
 use Rattle.std.proofs.lemmas.Bool.{false≢true}
-use Rattle.std.proofs.Math.Option.{Option, none, some}
 use Rattle.logic.specs.Tests.{So, reading}
-use Rattle.parts.specs.Numbers.{byte_at, num2, up_to}
-use Rattle.labels.specs.Labels.{most_entries}
 use Rattle.description.specs.Literals.{literal, entry_of, code_literal, code_entry}
-use Rattle.description.specs.Descriptions.{Entry, top, name, both, every, at_least, Disjoint, Description, Fields, fields_of, entry_of_fields}
-use Rattle.description.specs.Acceptance.{greatest_number, EntryOk}
+use Rattle.description.specs.Descriptions.{Entry, top, name, both, every, at_least, Description, Fields, fields_of}
+use Rattle.description.specs.Acceptance.{EntryOk}
 use Rattle.tables.specs.Tables.{FieldsOk, field_test, fields_test}
 
 made : ℕ → ℕ → ℕ → ℕ → ℕ → Fields

@@ -1,13 +1,11 @@
 -- The description that its parts are: roles, concepts, query and, where there is a fourth, roles that never share a filler (FORMAT 2).
-use Rattle.std.specs.Prelude.{ℕ, zero, suc, ◌+◌, ◌-◌, ◌*◌, ◌/◌, ◌<◌, ◌≡◌, refl, ◌↔◌, Bool, true, false, ◌&&◌, List, [], eqb, leb, ltb, length}
-use Rattle.std.proofs.Common.{sym, subst, arith}
-use Rattle.std.proofs.lemmas.Bool.{false≢true}
+use Rattle.std.specs.Prelude.{ℕ, zero, suc, ◌+◌, ◌-◌, ◌*◌, ◌/◌, ◌≡◌, refl, Bool, true, false, ◌&&◌, List, [], eqb, leb, ltb, length}
+use Rattle.std.proofs.Common.{arith}
 use Rattle.std.proofs.Math.Option.{Option, none, some}
-use Rattle.logic.specs.Tests.{So, reading}
 use Rattle.parts.specs.Numbers.{byte_at, num2, up_to}
 use Rattle.labels.specs.Labels.{most_entries}
-use Rattle.description.specs.Literals.{literal, entry_of, code_literal, code_entry}
-use Rattle.description.specs.Descriptions.{Entry, top, name, both, every, at_least, Disjoint, Description, Fields, fields_of, entry_of_fields}
+use Rattle.description.specs.Literals.{literal}
+use Rattle.description.specs.Descriptions.{Entry, Disjoint, Description, Fields, fields_of, entry_of_fields}
 use Rattle.description.specs.Acceptance.{greatest_number, EntryOk}
 
 -- the number of entries of the part cs, at most the most that a table has

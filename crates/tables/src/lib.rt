@@ -32,7 +32,8 @@ pub struct Count {
     pub side: Side,
 }
 
-// The concept of an entry. An "at least" holds its count, with the lower side; with the upper one that case is the complement's, an "at most".
+// The concept of an entry. An "at least" holds its count, with the lower side; with the upper one that case is the complement's, an
+// "at most".
 #[derive(Clone, Copy)]
 pub enum Concept {
     Top,
@@ -50,6 +51,8 @@ pub enum LiteralConcept {
     Not(Concept),
 }
 
+// The fields of an entry as they stand in bytes. The kind is a byte and no enum: test 4 (`fields_ok`) and the editor take every byte
+// there, and refuse those that are no kind.
 #[derive(Clone, Copy)]
 pub struct Fields {
     pub kind: u8,
@@ -158,8 +161,7 @@ pub fn concept_at(cs: &[u8], e: EntryNo) -> Concept
     ensures { (result ≡ concept_at cs.now e.0) × (bound_in result < 65536) }
 {
     let f = fields_at(cs, e);
-    let kind = f.kind;
-    match kind {
+    match f.kind {
         0 => Concept::Top,
         1 => Concept::Name,
         2 => Concept::Both(f.first, f.second),
@@ -177,21 +179,10 @@ pub fn concept_at(cs: &[u8], e: EntryNo) -> Concept
 fn fewer(m: Count) -> Count
     ensures { result ≡ fewer_of m }
 {
-    let role = m.role;
-    let n = m.bound;
-    if n == 0 {
-        return Count {
-            role: role,
-            literal: m.literal,
-            bound: 0,
-            side: Side::Upper,
-        };
-    }
     Count {
-        role: role,
-        literal: m.literal,
-        bound: n - 1,
+        bound: m.bound.saturating_sub(1),
         side: Side::Upper,
+        ..m
     }
 }
 
@@ -200,11 +191,8 @@ fn complement(c: Concept) -> LiteralConcept
     ensures { result ≡ complement_of c }
 {
     match c {
-        Concept::Top => LiteralConcept::Not(Concept::Top),
-        Concept::Name => LiteralConcept::Not(Concept::Name),
-        Concept::Both(a, b) => LiteralConcept::Not(Concept::Both(a, b)),
-        Concept::Every(r, l) => LiteralConcept::Not(Concept::Every(r, l)),
         Concept::AtLeast(m) => LiteralConcept::Is(Concept::AtLeast(fewer(m))),
+        other => LiteralConcept::Not(other),
     }
 }
 

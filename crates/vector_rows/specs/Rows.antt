@@ -1,6 +1,6 @@
 -- Rows of vectors: what digits say, and the fields that a mark ends.
-use Rattle.std.specs.Prelude.{ℕ, zero, suc, ◌+◌, ◌-◌, ◌*◌, ◌/◌, ◌%◌, ◌≤◌, ◌<◌, min, ◌≡◌, refl, Bool, true, false, cond, ◌&&◌, ◌⊎◌, List, [], ◌∷◌, eqb, ltb, length, get_or, set, take, drop}
-use Rattle.std.proofs.Common.{sym, ◌∙◌, ap, inl, inr, arith, drop_of_length-le, length-take-le, drop-cons, drop-drop}
+use Rattle.std.specs.Prelude.{ℕ, zero, suc, ◌+◌, ◌*◌, ◌/◌, ◌%◌, ◌≤◌, ◌<◌, min, ◌≡◌, refl, Bool, cond, ◌&&◌, List, [], ◌∷◌, eqb, ltb, length, get_or, set, take, drop}
+use Rattle.std.proofs.Common.{arith, drop_of_length-le, drop-cons}
 use Rattle.std.proofs.Math.Numerals.{add-one}
 use borrow.Author.Tests.{eq-eqb, ne_eqb, lt-ltb, le-ltb}
 use Rattle.logic.specs.Bounded.{all_below}
@@ -65,15 +65,6 @@ pub said_past : (hex : List ℕ) (i past : ℕ) → length hex / 2 ≤ i → pas
 unfolding byte_said
 said_past hex i past h = rw (le-ltb _ _ h) refl
 
--- after the digits, and after the buffer
-pub decoded : (hex old new : List ℕ) (n : ℕ) → n ≤ length hex / 2 → n ≤ length old → (length hex / 2 ≤ n) ⊎ (length old ≤ n) → Filled (length old) (λ i. byte_said hex i 0) n new
-    → Decoded hex old new n
-decoded hex old new n h k e f = record {
-  count = elim e [ inl l ↦ omega arith | inr l ↦ omega arith ];
-  filled = f;
-  part = sym (length-take-le n new (omega (arith, f.size)));
-}
-
 pub counted_more : (ns : List ℕ) (k : ℕ) → k < length ns → get_or ns k 0 < 1000000 → set ns k (get_or ns k 0 + 1) ≡ counted ns k
 unfolding counted
 counted_more ns k h g = rw (lt-ltb _ _ h, lt-ltb _ _ g) refl
@@ -107,41 +98,3 @@ module _ (mark : ℕ) (all : List ℕ) (i : ℕ) where
   pub mark_end : length all ≤ i → i ≡ i + length (until mark (drop i all))
   unfolding until
   mark_end h = rw (drop_of_length-le _ h) (omega arith)
-
-take_until : (mark : ℕ) (xs : List ℕ) → take (length (until mark xs)) xs ≡ until mark xs
-unfolding until
-take_until mark [] = refl
-take_until mark (x ∷ xs) = go (eqb x mark) (take_until mark xs)
-  where
-    go : (b : Bool) → take (length (until mark xs)) xs ≡ until mark xs → take (length (cond b [] (x ∷ until mark xs))) (x ∷ xs) ≡ cond b [] (x ∷ until mark xs)
-    go true h = refl
-    go false h = ap (λ ys. x ∷ ys) h
-
-skip_none : (mark k : ℕ) → skip mark k [] ≡ []
-unfolding skip until
-skip_none mark zero = refl
-skip_none mark (suc k) = skip_none mark k
-
--- one mark more
-pub skip_more : (mark : ℕ) (all : List ℕ) (k i at end : ℕ) → i < k → end ≡ at + length (until mark (drop at all)) → skip mark (k - i) (drop at all) ≡ skip mark (k - (i + 1)) (drop (end + 1) all)
-unfolding skip
-skip_more mark all k i at end h e =
-    let z : k - i ≡ suc (k - (i + 1)) = omega arith in
-    rw z (ap (skip mark (k - (i + 1))) (drop-drop (length (until mark (drop at all)) + 1) at all ∙ ap (λ n. drop n all) (let y : at + (length (until mark (drop at all)) + 1) ≡ end + 1 = omega arith in y)))
-
--- no mark more
-pub skip_end : (mark : ℕ) (all : List ℕ) (k i at end : ℕ) → i < k → end ≡ at + length (until mark (drop at all)) → end ≡ length all → drop end all ≡ skip mark (k - i) (drop at all)
-skip_end mark all k i at end h e g =
-    drop_of_length-le all (let z : length all ≤ end = omega arith in z)
-    ∙ sym (skip_more mark all k i at end h e ∙ rw (drop_of_length-le all (let z : length all ≤ end + 1 = omega arith in z)) (skip_none mark (k - (i + 1))))
-
--- no mark left to pass
-pub skip_done : (mark k i : ℕ) (xs : List ℕ) → k ≤ i → xs ≡ skip mark (k - i) xs
-unfolding skip
-skip_done mark k i xs h = let z : k - i ≡ 0 = omega arith in rw z refl
-
--- the part from a field's start to its mark
-pub field_is : (mark : ℕ) (all xs : List ℕ) (at end : ℕ) → drop at all ≡ xs → end ≡ at + length (until mark (drop at all)) → take (end - at) (drop at all) ≡ until mark xs
-field_is mark all xs at end e g =
-    let z : end - at ≡ length (until mark (drop at all)) = omega arith in
-    rw z (take_until mark (drop at all) ∙ ap (until mark) e)

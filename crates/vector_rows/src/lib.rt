@@ -3,9 +3,11 @@
 
 ghost use Rattle.std.specs.Prelude.{◌≡◌, ◌+◌, ◌%◌, ◌<◌, ◌≤◌, max, eqb, length, drop, replicate};
 ghost use Rattle.parts.specs.Numbers.{byte_at};
-ghost use Rattle.vector_rows.specs.Rows.{digit_of, byte_said, bytes_said, Decoded, until, skip, field_of, number_from, longest_file, counted};
+ghost use Rattle.vector_rows.specs.Rows.{digit_of, byte_said, bytes_said, Decoded, until, field_of, number_from, longest_file, counted};
+ghost use Rattle.vector_rows.specs.Parts.{parts_of, Steps};
 
 use parts::byte;
+use std::io;
 
 // Whether the line is a remark.
 pub fn is_remark(line: &[u8]) -> bool
@@ -36,29 +38,18 @@ pub fn byte_said(hex: &[u8], i: usize, past: u8) -> u8
 pub fn decode(hex: &[u8], out: &mut [u8]) -> usize
     ensures { Decoded hex.now out.old out.new result }
 {
-    let mut i = 0;
-    while i < out.len() {
-        if hex.len() / 2 <= i {
-            return i;
-        }
+    let n = out.len().min(hex.len() / 2);
+    for i in 0..n {
         out[i] = byte_said(hex, i, 0);
-        i += 1;
     }
-    i
+    n
 }
 
 // Whether each byte of a buffer is the one that the digits say, and `past` where they end.
 pub fn bytes_are(buf: &[u8], hex: &[u8], past: u8) -> bool
     ensures { result ≡ bytes_said buf.now hex.now past }
 {
-    let mut i = 0;
-    while i < buf.len() {
-        if buf[i] != byte_said(hex, i, past) {
-            return false;
-        }
-        i += 1;
-    }
-    true
+    (0..buf.len()).all(|i| buf[i] == byte_said(hex, i, past))
 }
 
 // The number that the digits say, below 65,536.
@@ -66,11 +57,8 @@ pub fn number(digits: &[u8]) -> usize
     ensures { result ≡ number_from 0 digits.now }
 {
     let mut n: usize = 0;
-    let mut i = 0;
-    while i < digits.len() {
-        let c = byte(digits, i) as usize;
-        n = (10 * n + c % 16) % 65536;
-        i += 1;
+    for &c in digits {
+        n = (10 * n + usize::from(c % 16)) % 65536;
     }
     n
 }
@@ -86,40 +74,19 @@ pub fn small_number(digits: &[u8]) -> u8
 pub fn mark_from(all: &[u8], from: usize, mark: u8) -> usize
     ensures { (result ≡ from + length (until mark (drop from all.now))) × (result ≤ max from (length all.now)) }
 {
-    let mut end = from;
-    while end < all.len() {
+    for end in from..all.len() {
         if all[end] == mark {
             return end;
         }
-        end += 1;
     }
-    end
-}
-
-// Where field `k` begins, or the end.
-fn field_start(line: &[u8], k: usize, mark: u8) -> usize
-    ensures { (drop result line.now ≡ skip mark k line.now) × (result ≤ length line.now) }
-{
-    let mut at = 0;
-    let mut i = 0;
-    while i < k {
-        let end = mark_from(line, at, mark);
-        if end == line.len() {
-            return end;
-        }
-        at = end + 1;
-        i += 1;
-    }
-    at
+    from.max(all.len())
 }
 
 // Field `k` of those that the mark ends.
 pub fn field(line: &[u8], k: usize, mark: u8) -> &[u8]
     ensures { result.now ≡ field_of mark k line.now }
 {
-    let at = field_start(line, k, mark);
-    let end = mark_from(line, at, mark);
-    &line[at..end]
+    line.split(|&c| c == mark).nth(k).unwrap_or(&[])
 }
 
 // Zeros: space for the longest data file. The clause `size` gives the length, which lending the array needs.
@@ -135,9 +102,26 @@ pub fn file_space() -> [u8; 1048576]
 pub fn count(counts: &mut [u64], k: usize)
     ensures { counts.new ≡ counted counts.old k }
 {
-    if k < counts.len() {
-        if counts[k] < 1000000 {
-            counts[k] += 1;
-        }
+    if k < counts.len() && counts[k] < 1000000 {
+        counts[k] += 1;
     }
+}
+
+// Gives a step each part that the mark ends, in order, up to the first that fails. What stands behind the last mark is a part too.
+pub fn run_parts<F: FnMut(&[u8]) -> io::Result<()>>(
+    all: &[u8],
+    mark: u8,
+    mut step: F,
+) -> io::Result<()>
+    requires { F.IsAlwaysCallable step }
+    ensures { Steps F.FnMut step (parts_of mark all.now) result }
+{
+    // From mark to mark, and no plainer by the library: `split` gives an empty part behind a last mark, `split_inclusive` each mark too.
+    let mut at = 0;
+    while at < all.len() {
+        let end = mark_from(all, at, mark);
+        step(&all[at..end])?;
+        at = end + 1;
+    }
+    Ok(())
 }

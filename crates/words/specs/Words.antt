@@ -41,17 +41,17 @@ set_more p i x y b e q r = r ∙ rw (e, q, add-one i) (set_ext _ _
 pub set_done : (p : ℕ → Bool) (i x n : ℕ) → i ≤ n → n ≤ i → x ≡ set_of i p → x ≡ set_of n p
 set_done p i x n h k e = let z : i ≡ n = omega arith in rw z at e
 
--- the same in a word of 64 digits: only numbers below 64 are put in
-pub in_word_lem : (i : ℕ) (b c : Bool) → i < 64 → b ≡ c → (ltb i 64 && b) ≡ c
-in_word_lem i b c h e = rw (lt-ltb _ _ h) e
+-- the same in a word of k digits: only numbers below k are put in
+pub in_word_lem : (k i : ℕ) (b c : Bool) → i < k → b ≡ c → (ltb i k && b) ≡ c
+in_word_lem k i b c h e = rw (lt-ltb _ _ h) e
 
-pub put_on : (x i : ℕ) (b : Bool) → (ltb i 64 && b) ≡ true → bit_or x (1 * 2 ^ (i % 64) % 2 ^ 64) ≡ put_in x i (ltb i 64 && b)
+pub put_on : (k x i : ℕ) (b : Bool) → (ltb i k && b) ≡ true → bit_or x (1 * 2 ^ (i % k) % 2 ^ k) ≡ put_in x i (ltb i k && b)
 unfolding with
-put_on x i b e = let h : i < 64 = so_ltb i 64 (and_l (ltb i 64) b e) in
-    rw e (ap (bit_or x) (rw (mod-eq_of_lt h, one-mul) (mod-eq_of_lt (pow-lt {j = 64} h))))
+put_on k x i b e = let h : i < k = so_ltb i k (and_l (ltb i k) b e) in
+    rw e (ap (bit_or x) (rw (mod-eq_of_lt h, one-mul) (mod-eq_of_lt (pow-lt {j = k} h))))
 
-pub put_off : (x i : ℕ) (b : Bool) → (ltb i 64 && b) ≡ false → x ≡ put_in x i (ltb i 64 && b)
-put_off x i b e = rw e refl
+pub put_off : (k x i : ℕ) (b : Bool) → (ltb i k && b) ≡ false → x ≡ put_in x i (ltb i k && b)
+put_off k x i b e = rw e refl
 
 -- ---- each number one higher
 -- the set x with each number one higher, and with 0 if the test passes, in a word of 64 digits

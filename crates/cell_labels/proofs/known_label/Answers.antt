@@ -4,24 +4,21 @@ use Rattle.labels.specs.Labels.{value_of}
 use Rattle.logic.specs.Sets.{has}
 use lib.Dec.{eqb}
 use native.Mathlib.Omega.{arith}
-use Prim.Native.Nat.{◌-◌}
 use Rattle.cell_labels.proofs.known_label.Goals as goal
 
 pub loop-i-init : goal.loop-i-init
-loop-i-init c = (omega arith, puts_none _ _)
+loop-i-init c = puts_none _ _
 
 pub loop-i-preserved : goal.loop-i-preserved
 loop-i-preserved c = let v = c.loop-i.invariant in
-    let e = c.args in let i = c.loop-i.i in (
-      omega arith,
-      puts_more (value_of c.only-out.result) (value_of c.loop-i.out) i _ v.1 _
-          (row_told (value_of c.loop-i.out) (value_of c.with_row-out.result) _ _ (has (label_at e.shown i)) (eqb (mask_at
-          e.against i)) _ _ c.has16.ensures c.meet.ensures
-          c.with_row-out.ensures),
-    )
+    let e = c.args in let i = c.loop-i.i in
+    puts_more (value_of c.only-out.result) (value_of c.loop-i.out) i _ v _
+    (row_told (value_of c.loop-i.out) (value_of c.with_row-out.result) _ _ (has (label_at e.shown i)) (eqb (mask_at
+    e.against i)) _ _ c.has.ensures c.meet.ensures
+    c.with_row-out.ensures)
 
 pub returns : goal.returns
 returns c = let e = c.args in
     gathered_is (has e.roles) e.own e.shown e.against e.c
     (value_of c.only-out.result) (value_of c.loop-i.out) c.only-out.ensures
-    (puts_done (value_of c.only-out.result) (value_of c.loop-i.out) c.loop-i.i _ c.loop-i.invariant.1 6 (omega arith) (omega arith))
+    (puts_done (value_of c.only-out.result) (value_of c.loop-i.out) c.loop-i.i _ c.loop-i.invariant 6 (omega arith) (omega arith))

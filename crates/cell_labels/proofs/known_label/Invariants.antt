@@ -3,13 +3,8 @@ use Rattle.cell_labels.specs.CellShows.{Puts}
 use Rattle.labels.specs.Labels.{value_of}
 use Rattle.logic.specs.Sets.{has}
 use Rattle.logic.specs.Bounded.{any_below}
-use Prim.Native.Nat.{◌-◌, ◌≤◌}
 use Rattle.cell_labels.proofs.known_label.Given as goal
 
 abbrev pub invariant-loop-i : goal.invariant-loop-i
 invariant-loop-i l =
-    (l.i ≤ 6)
-    × Puts (value_of l.initial.out) (value_of l.out) (λ q. any_below l.i (gives (has l.roles) l.own l.shown l.against l.c q))
-
-abbrev pub decreases-loop-i : goal.decreases-loop-i
-decreases-loop-i l = 6 - l.i
+    Puts (value_of l.initial.out) (value_of l.out) (λ q. any_below l.i (gives (has l.roles) l.own l.shown l.against l.c q))

@@ -1,18 +1,14 @@
-use Rattle.labels.specs.Labels.{label_with}
-use Rattle.cell_labels.specs.CellRows.{six_start, six_more, six_done, six_row}
-use native.Mathlib.Omega.{arith}
-use mathlib.Core.Path.{refl, ◌∙◌}
-use Prim.Native.Nat.{◌-◌}
+use mathlib.Core.Path.{◌≡◌}
+use lib.Dec.{ltb}
+use borrow.Author.Rules.{rules}
+use Rattle.logic.specs.Sums.{only}
+use Rattle.rows.specs.HeldRows.{first_at}
+use Rattle.rows.proofs.Made.{each_made}
+use Rattle.labels.specs.Labels.{value_of, label_with, no_label}
+use Rattle.cell_labels.specs.CellRows.{six_made}
 use Rattle.cell_labels.proofs.qualified_of.Goals as goal
 
-pub loop-i-init : goal.loop-i-init
-loop-i-init c = (omega arith, six_start _ _ c.empty-none.ensures refl)
-
-pub loop-i-preserved : goal.loop-i-preserved
-loop-i-preserved c = let v = c.loop-i in let g = c.args in
-    let e = c.qualified_by.ensures
-    ∙ six_row g.rows g.k v.i _ (λ R. label_with 0 R.qualifier) (omega arith) c.row_at.ensures in
-    (omega arith, six_more v.invariant.1 _ (omega arith) e)
-
 pub returns : goal.returns
-returns c = let v = c.loop-i in six_done v.invariant.1 _ _ (omega arith) (λ m. refl)
+returns c = let g = c.args in let r = c.from_fn.ensures.items in
+    six_made g.rows g.k (λ R. label_with 0 R.qualifier) c.from_fn.result r.long
+    (each_made (λ i b. value_of b ≡ only (ltb i g.k) (label_with 0 (first_at g.rows g.k i).qualifier)) no_label (λ i b q e. search rules) c.from_fn.result 6 r)

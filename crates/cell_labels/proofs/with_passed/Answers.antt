@@ -1,17 +1,16 @@
-use Rattle.cell_labels.specs.CellRows.{label_at, grown_start, grown_row, grown_rows, put_told}
-use native.Mathlib.Omega.{arith}
-use Prim.Native.Nat.{◌-◌}
+use borrow.Author.Rules.{rules}
+use Rattle.rows.proofs.Made.{each_made}
+use Rattle.labels.specs.Labels.{value_of, no_label}
+use Rattle.logic.specs.Sets.{has}
+use mathlib.Core.Bool.{◌&&◌}
+use Rattle.cell_labels.specs.CellShows.{Puts}
+use Rattle.cell_labels.specs.CellRows.{mask_at, label_at, put_told}
 use Rattle.cell_labels.proofs.with_passed.Goals as goal
 
-pub loop-i-init : goal.loop-i-init
-loop-i-init c = (omega arith, grown_start _ _ c.requires)
-
-pub loop-i-preserved : goal.loop-i-preserved
-loop-i-preserved c = let v = c.loop-i in let g = c.args in (
-  omega arith,
-  grown_row _ _ v.i _ v.invariant.1 _ (omega arith) (put_told (label_at v.out v.i) _ _ _ _
-      c.has16.ensures c.add_if.ensures),
-)
-
 pub returns : goal.returns
-returns c = grown_rows _ _ c.loop-i.i _ c.loop-i.invariant.1 (omega arith)
+returns c = let g = c.args in let r = c.from_fn.ensures.items in
+    record {
+      size = r.long;
+      at = each_made (λ i b. Puts (label_at g.old i) (value_of b) (λ l. has (mask_at g.above i) g.t.0 && has (value_of g.y) l)) no_label
+          (λ i b q e. search (rules, put_told)) c.from_fn.result 6 r;
+    }

@@ -1,4 +1,4 @@
-use Prim.Native.Nat.{◌+◌, ◌-◌, ◌≤◌}
+use Prim.Native.Nat.{◌+◌}
 use mathlib.Core.Path.{◌≡◌}
 use lib.ListN.{length}
 use Rattle.cell_walk.specs.Walks.{CorrectedAt}
@@ -8,8 +8,5 @@ use Rattle.cell_walk.proofs.next_cell.Given as goal
 
 abbrev pub invariant-loop-i : goal.invariant-loop-i
 invariant-loop-i l =
-    (l.i ≤ l.n) × (l.n ≤ 6) × FirstChange l.c l.n
+    FirstChange l.c l.n
     × (length l.initial.from ≡ 7 → CorrectedAt l.above (l.c + 1) (rows_up l.n l.i) l.initial.from l.from)
-
-abbrev pub decreases-loop-i : goal.decreases-loop-i
-decreases-loop-i l = l.i

@@ -1,35 +1,56 @@
-use mathlib.Core.Path.{◌∙◌, sym, ap}
-use Rattle.answers.specs.Answers.{refusal_of}
+use Rattle.std.specs.Prelude.{Some, None, Ok, Err}
+use Rattle.std.proofs.Common.{refl, sym, ◌∙◌, ap, ap₂, rules}
+use Rattle.labels.specs.Labels.{label_with}
+use Rattle.logic.specs.Refusals.{first_of}
 use Rattle.graph_check.specs.GraphSteps.{graph_code}
 use Rattle.list_check.specs.CheckSteps.{list_code}
-use Rattle.claims.specs.ClaimSteps.{pieces_code, ends_in}
-use Rattle.claims.proofs.ClaimSteps.{literals_stop, pieces_end, list_stops, list_on}
+use Rattle.claims.specs.declared.Pieces.TheVariants.{ListAndGraph, GraphAlone, ListAlone}
+use Rattle.claims.proofs.ClaimSteps.{literals_stop, kinds_stop, pieces_stop, pieces_pass}
 use Rattle.claims.proofs.check_opened.Goals as goal
 
-pub returns-in_default : goal.returns-in_default
-returns-in_default c = let g = c.args in
-    c.told.ensures ∙ ap (λ t. ends_in c.kinds-p.result (refusal_of t)) c.in_default.is ∙ literals_stop g.shape.marks g.m.now g.shape.roles g.cs.now g.qs.now g.k.c g.k.d g.first.now g.second.now c.kinds-p.result c.kinds-p.ensures _ (sym c.test_literals-t.ensures ∙ ap refusal_of c.in_default.is)
+pub returns-in_err-test_literals : goal.returns-in_err-test_literals
+returns-in_err-test_literals c = let g = c.args in
+    literals_stop g.shape.marks g.m.now g.shape.roles g.cs.now g.qs.now g.k.c g.k.d g.first.now g.second.now c.from_residual.result c.in_err-test_literals.field-0.0 (search rules) c.in_err-test_literals.ensures
 
-pub returns-in_default-u : goal.returns-in_default-u
-returns-in_default-u c = let g = c.args in
-    c.told-in_default-u.ensures ∙ pieces_end g.shape.marks g.m.now g.shape.roles g.cs.now g.qs.now g.k.c g.k.d g.first.now g.second.now c.kinds-p.result c.kinds-p.ensures (sym c.test_literals-t.ensures ∙ ap refusal_of c.in-Fine.is) _ (ap refusal_of c.in_default-u.is ∙ list_stops g.shape.marks g.m.now g.shape.roles g.cs.now g.qs.now g.k.c g.k.d g.first.now g.second.now c.kinds-p.result c.in-ListAndGraph.is _ (sym (ap (λ M. list_code g.shape.marks g.m.now g.cs.now g.qs.now M g.first.now) c.counterexample.ensures) ∙ sym c.test_list-u.ensures ∙ ap refusal_of c.in_default-u.is))
+pub returns-in_err-kinds : goal.returns-in_err-kinds
+returns-in_err-kinds c = let g = c.args in
+    kinds_stop g.shape.marks g.m.now g.shape.roles g.cs.now g.qs.now g.k.c g.k.d g.first.now g.second.now c.from_residual-in_err-kinds.result c.in_err-kinds.field-0.0 (search rules) c.in_ok-test_literals.ensures c.in_err-kinds.ensures
 
-pub returns-in-Fine-u : goal.returns-in-Fine-u
-returns-in-Fine-u c = let g = c.args in
-    c.told-in-ListAndGraph.ensures ∙ pieces_end g.shape.marks g.m.now g.shape.roles g.cs.now g.qs.now g.k.c g.k.d g.first.now g.second.now c.kinds-p.result c.kinds-p.ensures (sym c.test_literals-t.ensures ∙ ap refusal_of c.in-Fine.is) _ (c.test_graph.ensures ∙ ap (λ M. graph_code g.m.now g.shape.roles g.cs.now g.qs.now M g.second.now) c.only.ensures ∙ list_on g.shape.marks g.m.now g.shape.roles g.cs.now g.qs.now g.k.c g.k.d g.first.now g.second.now c.kinds-p.result c.in-ListAndGraph.is (sym (ap (λ M. list_code g.shape.marks g.m.now g.cs.now g.qs.now M g.first.now) c.counterexample.ensures) ∙ sym c.test_list-u.ensures ∙ ap refusal_of c.in-Fine-u.is))
+pub returns-in_err-test_list-in-ListAndGraph : goal.returns-in_err-test_list-in-ListAndGraph
+returns-in_err-test_list-in-ListAndGraph c = let g = c.args in
+    pieces_stop g.shape.marks g.m.now g.shape.roles g.cs.now g.qs.now g.k.c g.k.d g.first.now g.second.now c.from_residual-in_err-test_list-in-ListAndGraph.result c.in_err-test_list-in-ListAndGraph.field-0.0 (search rules)
+    c.in_ok-test_literals.ensures ListAndGraph (sym (ap Ok c.in-ListAndGraph.is) ∙ c.in_ok-kinds.ensures)
+    (ap (λ o. first_of o (graph_code g.m.now g.shape.roles g.cs.now g.qs.now (label_with 0 g.k.c) g.second.now)) (c.in_err-test_list-in-ListAndGraph.ensures ∙ ap (λ M. list_code g.shape.marks g.m.now g.cs.now g.qs.now M g.first.now) c.counterexample.ensures))
 
-pub returns-in-GraphAlone : goal.returns-in-GraphAlone
-returns-in-GraphAlone c = let g = c.args in
-    c.told-in-GraphAlone.ensures ∙ pieces_end g.shape.marks g.m.now g.shape.roles g.cs.now g.qs.now g.k.c g.k.d g.first.now g.second.now c.kinds-p.result c.kinds-p.ensures (sym c.test_literals-t.ensures ∙ ap refusal_of c.in-Fine.is) _ (c.test_graph-in-GraphAlone.ensures ∙ ap (λ M. graph_code g.m.now g.shape.roles g.cs.now g.qs.now M g.first.now) c.counterexample-in-GraphAlone.ensures ∙ sym (ap (pieces_code g.shape.marks g.m.now g.shape.roles g.cs.now g.qs.now g.k.c g.k.d g.first.now g.second.now) c.in-GraphAlone.is))
+pub returns-in_err-test_graph-in-ListAndGraph : goal.returns-in_err-test_graph-in-ListAndGraph
+returns-in_err-test_graph-in-ListAndGraph c = let g = c.args in
+    pieces_stop g.shape.marks g.m.now g.shape.roles g.cs.now g.qs.now g.k.c g.k.d g.first.now g.second.now c.from_residual-in_err-test_graph-in-ListAndGraph.result c.in_err-test_graph-in-ListAndGraph.field-0.0 (search rules)
+    c.in_ok-test_literals.ensures ListAndGraph (sym (ap Ok c.in-ListAndGraph.is) ∙ c.in_ok-kinds.ensures)
+    (c.in_err-test_graph-in-ListAndGraph.ensures ∙ ap (λ M. graph_code g.m.now g.shape.roles g.cs.now g.qs.now M g.second.now) c.only.ensures ∙ ap (λ o. first_of o (graph_code g.m.now g.shape.roles g.cs.now g.qs.now (label_with 0 g.k.c) g.second.now)) (c.in_ok-test_list-in-ListAndGraph.ensures ∙ ap (λ M. list_code g.shape.marks g.m.now g.cs.now g.qs.now M g.first.now) c.counterexample.ensures))
 
-pub returns-in-ListAlone : goal.returns-in-ListAlone
-returns-in-ListAlone c = let g = c.args in
-    c.told-in-ListAlone.ensures ∙ pieces_end g.shape.marks g.m.now g.shape.roles g.cs.now g.qs.now g.k.c g.k.d g.first.now g.second.now c.kinds-p.result c.kinds-p.ensures (sym c.test_literals-t.ensures ∙ ap refusal_of c.in-Fine.is) _ (c.test_list.ensures ∙ ap (λ M. list_code g.shape.marks g.m.now g.cs.now g.qs.now M g.first.now) c.only-in-ListAlone.ensures ∙ sym (ap (pieces_code g.shape.marks g.m.now g.shape.roles g.cs.now g.qs.now g.k.c g.k.d g.first.now g.second.now) c.in-ListAlone.is))
+pub returns-in_ok-test_graph-in-ListAndGraph : goal.returns-in_ok-test_graph-in-ListAndGraph
+returns-in_ok-test_graph-in-ListAndGraph c = let g = c.args in
+    pieces_pass g.shape.marks g.m.now g.shape.roles g.cs.now g.qs.now g.k.c g.k.d g.first.now g.second.now c.in_ok-test_literals.ensures ListAndGraph (sym (ap Ok c.in-ListAndGraph.is) ∙ c.in_ok-kinds.ensures)
+    (ap₂ first_of (c.in_ok-test_list-in-ListAndGraph.ensures ∙ ap (λ M. list_code g.shape.marks g.m.now g.cs.now g.qs.now M g.first.now) c.counterexample.ensures) (c.in_ok-test_graph-in-ListAndGraph.ensures ∙ ap (λ M. graph_code g.m.now g.shape.roles g.cs.now g.qs.now M g.second.now) c.only.ensures))
 
-pub returns-in-Misfit : goal.returns-in-Misfit
-returns-in-Misfit c = let g = c.args in
-    c.told-in-Misfit.ensures ∙ pieces_end g.shape.marks g.m.now g.shape.roles g.cs.now g.qs.now g.k.c g.k.d g.first.now g.second.now c.kinds-p.result c.kinds-p.ensures (sym c.test_literals-t.ensures ∙ ap refusal_of c.in-Fine.is) _ (ap refusal_of c.in-Fine.is ∙ sym (ap (pieces_code g.shape.marks g.m.now g.shape.roles g.cs.now g.qs.now g.k.c g.k.d g.first.now g.second.now) c.in-Misfit.is))
+pub returns-in_err-test_graph-in-GraphAlone : goal.returns-in_err-test_graph-in-GraphAlone
+returns-in_err-test_graph-in-GraphAlone c = let g = c.args in
+    pieces_stop g.shape.marks g.m.now g.shape.roles g.cs.now g.qs.now g.k.c g.k.d g.first.now g.second.now c.from_residual-in_err-test_graph-in-GraphAlone.result c.in_err-test_graph-in-GraphAlone.field-0.0 (search rules)
+    c.in_ok-test_literals.ensures GraphAlone (sym (ap Ok c.in-GraphAlone.is) ∙ c.in_ok-kinds.ensures)
+    (c.in_err-test_graph-in-GraphAlone.ensures ∙ ap (λ M. graph_code g.m.now g.shape.roles g.cs.now g.qs.now M g.first.now) c.counterexample-in-GraphAlone.ensures)
 
-pub returns-in-Off : goal.returns-in-Off
-returns-in-Off c = let g = c.args in
-    c.told-in-Off.ensures ∙ pieces_end g.shape.marks g.m.now g.shape.roles g.cs.now g.qs.now g.k.c g.k.d g.first.now g.second.now c.kinds-p.result c.kinds-p.ensures (sym c.test_literals-t.ensures ∙ ap refusal_of c.in-Fine.is) _ (ap refusal_of c.in-Fine.is ∙ sym (ap (pieces_code g.shape.marks g.m.now g.shape.roles g.cs.now g.qs.now g.k.c g.k.d g.first.now g.second.now) c.in-Off.is))
+pub returns-in_ok-test_graph-in-GraphAlone : goal.returns-in_ok-test_graph-in-GraphAlone
+returns-in_ok-test_graph-in-GraphAlone c = let g = c.args in
+    pieces_pass g.shape.marks g.m.now g.shape.roles g.cs.now g.qs.now g.k.c g.k.d g.first.now g.second.now c.in_ok-test_literals.ensures GraphAlone (sym (ap Ok c.in-GraphAlone.is) ∙ c.in_ok-kinds.ensures)
+    (c.in_ok-test_graph-in-GraphAlone.ensures ∙ ap (λ M. graph_code g.m.now g.shape.roles g.cs.now g.qs.now M g.first.now) c.counterexample-in-GraphAlone.ensures)
+
+pub returns-in_err-test_list-in-ListAlone : goal.returns-in_err-test_list-in-ListAlone
+returns-in_err-test_list-in-ListAlone c = let g = c.args in
+    pieces_stop g.shape.marks g.m.now g.shape.roles g.cs.now g.qs.now g.k.c g.k.d g.first.now g.second.now c.from_residual-in_err-test_list-in-ListAlone.result c.in_err-test_list-in-ListAlone.field-0.0 (search rules)
+    c.in_ok-test_literals.ensures ListAlone (sym (ap Ok c.in-ListAlone.is) ∙ c.in_ok-kinds.ensures)
+    (c.in_err-test_list-in-ListAlone.ensures ∙ ap (λ M. list_code g.shape.marks g.m.now g.cs.now g.qs.now M g.first.now) c.only-in-ListAlone.ensures)
+
+pub returns-in_ok-test_list-in-ListAlone : goal.returns-in_ok-test_list-in-ListAlone
+returns-in_ok-test_list-in-ListAlone c = let g = c.args in
+    pieces_pass g.shape.marks g.m.now g.shape.roles g.cs.now g.qs.now g.k.c g.k.d g.first.now g.second.now c.in_ok-test_literals.ensures ListAlone (sym (ap Ok c.in-ListAlone.is) ∙ c.in_ok-kinds.ensures)
+    (c.in_ok-test_list-in-ListAlone.ensures ∙ ap (λ M. list_code g.shape.marks g.m.now g.cs.now g.qs.now M g.first.now) c.only-in-ListAlone.ensures)

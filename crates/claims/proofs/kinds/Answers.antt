@@ -1,18 +1,18 @@
-use mathlib.Core.Path.{sym, ◌∙◌}
-use mathlib.Core.Bool.{true, false}
+use Rattle.std.specs.Prelude.{Some, None, Ok, Err}
+use Rattle.std.proofs.Common.{refl, sym, ◌∙◌, ap, ap₂, rules}
+use Rattle.std.proofs.Math.Bool.{true, false}
 use Rattle.claims.proofs.ClaimSteps.{first_is, off_first}
 use Rattle.claims.proofs.kinds.Goals as goal
 
-pub returns-in-Off : goal.returns-in-Off
-returns-in-Off c = let g = c.args in off_first g.first.now g.second.now
-    (sym c.in-Off.is ∙ c.read_head-head.ensures.0)
-
-pub returns-in-GraphOf : goal.returns-in-GraphOf
-returns-in-GraphOf c = let g = c.args in
+pub returns-in-Some-GraphOf : goal.returns-in-Some-GraphOf
+returns-in-Some-GraphOf c = let g = c.args in
     c.kinds_after.ensures ∙ first_is g.first.now g.second.now false _
-    (sym c.in-GraphOf.is ∙ c.read_head-head.ensures.0)
+    (sym (c.in-Some-GraphOf.is ∙ ap Some c.in-Some-GraphOf.field-0-is) ∙ c.read_head.ensures.0)
 
-pub returns-in-RefutationOf : goal.returns-in-RefutationOf
-returns-in-RefutationOf c = let g = c.args in
-    c.kinds_after-in-RefutationOf.ensures ∙ first_is g.first.now g.second.now true _
-    (sym c.in-RefutationOf.is ∙ c.read_head-head.ensures.0)
+pub returns-in-Some-RefutationOf : goal.returns-in-Some-RefutationOf
+returns-in-Some-RefutationOf c = let g = c.args in
+    c.kinds_after-in-Some-RefutationOf.ensures ∙ first_is g.first.now g.second.now true _
+    (sym (c.in-Some-RefutationOf.is ∙ ap Some c.in-Some-RefutationOf.field-0-is) ∙ c.read_head.ensures.0)
+
+pub returns-in-None : goal.returns-in-None
+returns-in-None c = let g = c.args in ap Err c.whole.ensures ∙ off_first g.first.now g.second.now (sym c.in-None.is ∙ c.read_head.ensures.0)

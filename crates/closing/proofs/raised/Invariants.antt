@@ -1,10 +1,6 @@
-use Prim.Native.Nat.{◌-◌, ◌≤◌}
 use mathlib.Core.Path.{◌≡◌}
 use Rattle.closing.specs.Steps.{raised_to}
 use Rattle.closing.proofs.raised.Given as goal
 
 abbrev pub invariant-loop-u : goal.invariant-loop-u
-invariant-loop-u l = (l.u ≤ 16) × (l.out ≡ raised_to l.m l.t l.a l.u)
-
-abbrev pub decreases-loop-u : goal.decreases-loop-u
-decreases-loop-u l = 16 - l.u
+invariant-loop-u l = l.out ≡ raised_to l.m l.t l.a l.u

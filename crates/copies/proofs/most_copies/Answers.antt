@@ -1,4 +1,3 @@
-use Prim.Native.Nat.{◌-◌}
 use mathlib.Core.Path.{refl}
 use native.Mathlib.Omega.{arith}
 use Rattle.logic.specs.Sums.{max_below}
@@ -7,18 +6,17 @@ use Rattle.copies.proofs.most_copies.Goals as goal
 
 pub loop-x-init : goal.loop-x-init
 unfolding max_below
-loop-x-init c = (omega arith, omega arith, refl)
+loop-x-init c = (omega arith, refl)
 
 pub loop-x-preserved : goal.loop-x-preserved
 loop-x-preserved c = let v = c.loop-x.invariant in (
-  omega arith,
-  omega arith,
-  copies_more c.args.f c.args.s.now c.args.n c.loop-x.x _ _ _ _ v.2
-      c.record_edges-es.ensures c.most_to.ensures.0 c.greater-most.ensures,
+  omega (arith, c.max-most.ensures, c.most_to.ensures.1),
+  copies_more c.args.f c.args.s.now c.args.n c.loop-x.x _ _ _ _ v.1
+      c.record_edges-es.ensures c.most_to.ensures.0 c.max-most.ensures,
 )
 
 pub returns : goal.returns
 returns c = let v = c.loop-x.invariant in (
-  copies_end c.args.f c.args.s.now c.args.n c.loop-x.x _ v.0 (omega arith) v.2,
-  v.1,
+  copies_end c.args.f c.args.s.now c.args.n c.loop-x.x _ (omega arith) (omega arith) v.1,
+  v.0,
 )

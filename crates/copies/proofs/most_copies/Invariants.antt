@@ -1,11 +1,8 @@
-use Prim.Native.Nat.{◌*◌, ◌-◌, ◌≤◌, max}
+use Prim.Native.Nat.{◌*◌, ◌≤◌, max}
 use mathlib.Core.Path.{◌≡◌}
 use Rattle.logic.specs.Sums.{max_below}
 use Rattle.copies.specs.Copying.{most_from}
 use Rattle.copies.proofs.most_copies.Given as goal
 
 abbrev pub invariant-loop-x : goal.invariant-loop-x
-invariant-loop-x l = (l.x ≤ l.n) × (l.most ≤ 32 * 65535) × (l.most ≡ max 1 (max_below l.x (most_from l.f l.s l.n)))
-
-abbrev pub decreases-loop-x : goal.decreases-loop-x
-decreases-loop-x l = l.n - l.x
+invariant-loop-x l = (l.most ≤ 32 * 65535) × (l.most ≡ max 1 (max_below l.x (most_from l.f l.s l.n)))

@@ -7,7 +7,7 @@ use Rattle.edges.specs.EdgeSteps.{edge_with, edge_told}
 use Rattle.edges.proofs.edges_hold.Goals as goal
 
 pub loop-j-init : goal.loop-j-init
-loop-j-init c = (omega arith, all_none _)
+loop-j-init c = all_none _
 
 pub returns-then-not-edge_ok : goal.returns-then-not-edge_ok
 returns-then-not-edge_ok c = let p = c.args in let j = c.loop-j.j in
@@ -15,11 +15,9 @@ returns-then-not-edge_ok c = let p = c.args in let j = c.loop-j.j in
     c.edge_at.ensures.0 c.edge_ok.ensures (c.if-not-edge_ok.true)))
 
 pub loop-j-preserved : goal.loop-j-preserved
-loop-j-preserved c = let p = c.args in let v = c.loop-j in (
-  omega arith,
-  all_more _ v.j v.invariant.1 (edge_told p.es.now v.j (edge_with p.a.now p.n p.size true) _ _ _
-      c.edge_at.ensures.0 c.edge_ok.ensures (c.if-not-edge_ok.false)),
-)
+loop-j-preserved c = let p = c.args in let v = c.loop-j in
+    all_more _ v.j v.invariant (edge_told p.es.now v.j (edge_with p.a.now p.n p.size true) _ _ _
+    c.edge_at.ensures.0 c.edge_ok.ensures (c.if-not-edge_ok.false))
 
 pub returns : goal.returns
-returns c = sym (all_done _ c.loop-j.j _ (omega arith) (omega arith) c.loop-j.invariant.1)
+returns c = sym (all_done _ c.loop-j.j _ (omega arith) (omega arith) c.loop-j.invariant)

@@ -1,4 +1,3 @@
-use Prim.Native.Nat.{◌-◌, ◌≤◌}
 use mathlib.Core.Path.{◌≡◌}
 use lib.ListN.{get_or}
 use Rattle.logic.specs.Sets.{has}
@@ -7,7 +6,4 @@ use Rattle.edges.specs.Unions.{union_below}
 use Rattle.edges.proofs.upward.Given as goal
 
 abbrev pub invariant-loop-r : goal.invariant-loop-r
-invariant-loop-r l = (l.r ≤ 16) × (l.up ≡ union_below l.r (λ r'. only (has l.m r') (get_or l.a r' 0)))
-
-abbrev pub decreases-loop-r : goal.decreases-loop-r
-decreases-loop-r l = 16 - l.r
+invariant-loop-r l = l.up ≡ union_below l.r (λ r'. only (has l.m r') (get_or l.a r' 0))

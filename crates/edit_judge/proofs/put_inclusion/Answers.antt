@@ -9,22 +9,23 @@ use Rattle.edit_judge.specs.InclusionLaws.{inclusion_put}
 use Rattle.edit_state.specs.Lent.{roles_from, state_bytes}
 use native.Mathlib.Omega.{arith}
 use Rattle.edit_judge.proofs.put_inclusion.Goals.{Start}
+use Rattle.std.proofs.Common.{rules}
 use Rattle.edit_judge.proofs.put_inclusion.Goals as goal
 
-pub returns-then-st-lt-STATE_BYTES : goal.returns-then-st-lt-STATE_BYTES
-returns-then-st-lt-STATE_BYTES c = short_edits _ _ c.if-st-lt-STATE_BYTES.true
+pub returns-in_err-enough : goal.returns-in_err-enough
+returns-in_err-enough c = let h = c.in_err-enough.ensures.short in short_edits _ _ _ (search rules) h.1
 
-pub returns-in_default : goal.returns-in_default
-returns-in_default c = judged_edits _ c.args.st.now _ _ _ (omega arith) c.in_default.is c.judge_inclusion-judged.ensures
+pub returns-in_err-judge_inclusion : goal.returns-in_err-judge_inclusion
+returns-in_err-judge_inclusion c =
+    judged_edits _ _ _ _ (omega (arith, c.in_ok-enough.ensures.whole)) (search rules) c.in_err-judge_inclusion.ensures
 
 pub returns : goal.returns
 returns c = let w =
     (goal.at.returns c).Start in
-    done_edits _ w.args.st.now _ (omega arith) (λ T rest l. let a = allowed _ w.args.st.now _ c.in-Done.is
-    c.judge_inclusion-judged.ensures T rest l in (
+    done_edits _ w.args.st.now _ (omega (arith, c.in_ok-enough.ensures.whole)) (λ T rest l. let a = allowed _ w.args.st.now c.in_ok-judge_inclusion.ensures T rest l in (
       a,
       c.lay_parent.ensures ∙ inclusion_put w.args.st.now w.args.r.0
           w.args.p.0 T rest l a,
-    )) (ap (drop state_bytes) (c.lay_parent.ensures ∙ laid_fits _ _ _ (omega arith)) ∙ laid_beyond w.args.st.now (roles_from + 3 *
+    )) (ap (drop state_bytes) (c.lay_parent.ensures ∙ laid_fits _ _ _ (omega (arith, c.in_ok-enough.ensures.whole))) ∙ laid_beyond w.args.st.now (roles_from + 3 *
     (w.args.r.0 % 16))
-    _ (omega arith) (omega arith))
+    _ (omega (arith, c.in_ok-enough.ensures.whole)) (omega (arith, c.in_ok-enough.ensures.whole)))

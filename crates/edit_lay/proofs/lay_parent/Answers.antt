@@ -1,6 +1,7 @@
-use Prim.Native.Nat.{◌+◌}
+use Prim.Native.Nat.{◌+◌, ◌%◌, ◌<◌}
 use mathlib.Core.Path.{refl, sym, ◌∙◌}
-use borrow.Author.Tests.{leb-true}
+use borrow.Author.Tests.{leb-true, lt-ltb}
+use native.Mathlib.Omega.{arith}
 use lib.ListN.{length}
 use Rattle.laying.specs.Laying.{laid_past}
 use borrow.Author.Rules.{rules}
@@ -14,4 +15,5 @@ overflow_add-at c = let a = c.args in let h = leb-true (a.at + 3) (length a.buf.
     (sym c.has_room.ensures ∙ c.if-not-has_room.false) in search rules
 
 pub returns : goal.returns
-returns c = rw (c.lay_role.ensures, c.byte-transitive.ensures, c.with_bit-parents.ensures, c.mask2.ensures) refl
+returns c = let h : c.args.p.0 % 16 < 16 = omega arith in
+    rw (c.lay_role.ensures, c.byte-transitive.ensures, c.put-parents.ensures, c.mask2.ensures, lt-ltb _ _ h) refl

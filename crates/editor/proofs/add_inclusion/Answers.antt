@@ -2,5 +2,4 @@ use Rattle.editor.proofs.StateLaws.{edits_state}
 use Rattle.editor.proofs.add_inclusion.Goals as goal
 
 pub returns : goal.returns
-returns c = let h = edits_state c.args.s _ c.put_inclusion-answer.result _ _ c.put_inclusion-answer.ensures c.after.ensures in
-    record { made = h.0; kept = h.1 }
+returns c = edits_state c.args.s _ c.put_inclusion-answer.result _ _ c.put_inclusion-answer.ensures c.after.ensures

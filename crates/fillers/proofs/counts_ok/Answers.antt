@@ -1,19 +1,12 @@
-use Prim.Native.Nat.{◌-◌}
-use mathlib.Core.Path.{◌∙◌, sym}
-use mathlib.Core.Bool.{true}
-use native.Mathlib.Omega.{arith}
-use Rattle.logic.specs.Bounded.{all_none, all_stop, all_more, all_done}
+use Rattle.std.proofs.Common.{rules, refl, ap, ◌∙◌}
+use Rattle.std.proofs.lemmas.Iterator.{YieldsList-from_range}
+use Rattle.logic.specs.Bounded.{all_below}
+use Rattle.logic.proofs.Ranges.{all_range}
+use Rattle.labels.specs.Labels.{value_of}
+use Rattle.evidence.specs.Evidence.{label_of}
 use Rattle.fillers.specs.FillerSteps.{least_at}
 use Rattle.fillers.proofs.counts_ok.Goals as goal
 
-pub loop-e-init : goal.loop-e-init
-loop-e-init c = (omega arith, c.entry_count-n.ensures.1, λ s es h n. all_none _)
-
-pub returns-then-not-least_at : goal.returns-then-not-least_at
-returns-then-not-least_at c = λ s es h n. sym (all_stop _ c.loop-e.e _ (omega arith) (sym (c.least_at.ensures s es h n) ∙ c.if-not-least_at.true))
-
-pub loop-e-preserved : goal.loop-e-preserved
-loop-e-preserved c = let v = c.loop-e.invariant in (omega arith, v.1, λ s es h n. all_more _ c.loop-e.e (v.2 s es h n) (sym (c.least_at.ensures s es h n) ∙ c.if-not-least_at.false))
-
 pub returns : goal.returns
-returns c = λ s es h n. sym (all_done _ c.loop-e.e _ (omega arith) (omega arith) (c.loop-e.invariant.2 s es h n))
+returns c = let p = c.args in let test = least_at p.cs.now (label_of p.t.now.form p.t.now.s.now) (value_of p.x) p.t.now.es.now in
+    all_range test _ _ _ _ c.all.ensures.ran (YieldsList-from_range 0 _ _ refl refl) (λ x b q e. search rules) ∙ ap (λ n. all_below n test) c.entry_count.ensures.0

@@ -1,29 +1,17 @@
-use Prim.Native.Nat.{◌-◌}
-use mathlib.Core.Path.{sym, ◌∙◌, ap}
-use mathlib.Core.Bool.{true}
-use native.Mathlib.Omega.{arith}
-use lib.ListN.{get_or}
-use Rattle.logic.specs.Bounded.{all_none, all_stop, all_more, all_done}
-use Rattle.labels.specs.Words.{meet}
+use Prim.Native.Nat.{ℕ}
+use Rattle.std.proofs.Common.{rules, refl, ap, ◌∙◌}
+use Rattle.std.specs.Prelude.{Bool, get_or}
+use Rattle.std.proofs.lemmas.Iterator.{YieldsList-from_range}
+use Rattle.logic.specs.Bounded.{all_below}
+use Rattle.logic.proofs.Ranges.{all_range}
 use Rattle.labels.specs.Labels.{value_of}
+use Rattle.labels.specs.Words.{meet, entries_of}
+use Rattle.evidence.specs.Evidence.{label_of}
 use Rattle.fillers.specs.FillerSteps.{every_with}
 use Rattle.fillers.proofs.everys_ok.Goals as goal
 
-pub loop-e-init : goal.loop-e-init
-loop-e-init c = (omega arith, c.entry_count-n.ensures.1, c.entries_of-own.ensures, λ num es h. all_none _)
-
-pub returns-then-not-every_at : goal.returns-then-not-every_at
-returns-then-not-every_at c = λ num es h. let a = c.args in sym (all_stop _ c.loop-e.e _ (omega arith)
-    (ap (λ on. every_with a.cs.now num on (value_of a.x) es c.loop-e.e) (sym (c.share_entry-on.ensures ∙ ap (λ n. meet n (get_or a.src.now c.loop-e.e 0)) c.loop-e.invariant.2)) ∙ sym (c.every_at.ensures num es h) ∙ c.if-not-every_at.true))
-
-pub loop-e-preserved : goal.loop-e-preserved
-loop-e-preserved c = let v = c.loop-e.invariant in let a = c.args in (
-  omega arith,
-  v.1,
-  v.2,
-  λ num es h. all_more _ c.loop-e.e (v.3 num es h)
-      (ap (λ on. every_with a.cs.now num on (value_of a.x) es c.loop-e.e) (sym (c.share_entry-on.ensures ∙ ap (λ n. meet n (get_or a.src.now c.loop-e.e 0)) c.loop-e.invariant.2)) ∙ sym (c.every_at.ensures num es h) ∙ c.if-not-every_at.false),
-)
-
 pub returns : goal.returns
-returns c = λ num es h. sym (all_done _ c.loop-e.e _ (omega arith) (omega arith) (c.loop-e.invariant.3 num es h))
+unfolding meet
+returns c = let p = c.args in
+    let test : ℕ → Bool = λ e. every_with p.cs.now (label_of p.t.now.form p.t.now.s.now) (meet (entries_of (value_of p.x)) (get_or p.src.now e 0)) (value_of p.x) p.t.now.es.now e in
+    all_range test _ _ _ _ c.all.ensures.ran (YieldsList-from_range 0 _ _ refl refl) (λ x b q e. search rules) ∙ ap (λ n. all_below n test) c.entry_count.ensures.0

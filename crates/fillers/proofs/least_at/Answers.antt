@@ -1,19 +1,13 @@
 use mathlib.Core.Path.{◌∙◌}
 use Rattle.labels.specs.Labels.{value_of}
-use Rattle.fillers.specs.FillerSteps.{least_read}
+use Rattle.evidence.specs.Evidence.{label_of}
+use Rattle.fillers.specs.FillerSteps.{least_read, uncounted_read}
 use Rattle.fillers.proofs.least_at.Goals as goal
 
 pub returns-in-AtLeast : goal.returns-in-AtLeast
-returns-in-AtLeast c = λ s es h n. let g = c.args in c.least_holds.ensures s es h n ∙ least_read g.cs.now s (value_of g.x) es g.e.0 _ _ c.concept_at-c.ensures.0 c.in-AtLeast.is
+returns-in-AtLeast c = let g = c.args in let t = g.t.now in
+    c.least_holds.ensures ∙ least_read g.cs.now (label_of t.form t.s.now) (value_of g.x) t.es.now g.e.0 _ _ c.concept_at.ensures.0 c.in-AtLeast.is
 
-pub returns-in-Top : goal.returns-in-Top
-returns-in-Top c = λ s es h n. let g = c.args in least_read g.cs.now s (value_of g.x) es g.e.0 _ _ c.concept_at-c.ensures.0 c.in-Top.is
-
-pub returns-in-Name : goal.returns-in-Name
-returns-in-Name c = λ s es h n. let g = c.args in least_read g.cs.now s (value_of g.x) es g.e.0 _ _ c.concept_at-c.ensures.0 c.in-Name.is
-
-pub returns-in-Both : goal.returns-in-Both
-returns-in-Both c = λ s es h n. let g = c.args in least_read g.cs.now s (value_of g.x) es g.e.0 _ _ c.concept_at-c.ensures.0 c.in-Both.is
-
-pub returns-in-Every : goal.returns-in-Every
-returns-in-Every c = λ s es h n. let g = c.args in least_read g.cs.now s (value_of g.x) es g.e.0 _ _ c.concept_at-c.ensures.0 c.in-Every.is
+pub returns-in_default : goal.returns-in_default
+returns-in_default c = let g = c.args in let t = g.t.now in
+    uncounted_read g.cs.now (label_of t.form t.s.now) (value_of g.x) t.es.now g.e.0 _ c.concept_at.ensures.0 c.in_default.not-AtLeast

@@ -1,18 +1,9 @@
-use Prim.Native.Nat.{◌-◌}
-use mathlib.Core.Path.{◌∙◌, sym}
-use mathlib.Core.Bool.{true}
-use native.Mathlib.Omega.{arith}
-use Rattle.logic.specs.Bounded.{all_none, all_stop, all_more, all_done}
+use Rattle.std.proofs.Common.{rules, ◌∙◌, ltb}
+use Rattle.std.proofs.lemmas.Iterator.{YieldsList-from_slice}
+use Rattle.std.proofs.lemmas.Iterator.Search.{all_from_yields_List}
+use Rattle.intake.proofs.Listed.{all_bytes}
 use Rattle.intake.proofs.query_ok.Goals as goal
 
-pub loop-i-init : goal.loop-i-init
-loop-i-init c = (omega arith, all_none _)
-
-pub returns-then-not-literal_ok : goal.returns-then-not-literal_ok
-returns-then-not-literal_ok c = sym (all_stop _ c.loop-i.i _ (omega arith) (sym c.literal_ok.ensures ∙ c.if-not-literal_ok.true))
-
-pub loop-i-preserved : goal.loop-i-preserved
-loop-i-preserved c = (omega arith, all_more _ c.loop-i.i c.loop-i.invariant.1 (sym c.literal_ok.ensures ∙ c.if-not-literal_ok.false))
-
 pub returns : goal.returns
-returns c = sym (all_done _ c.loop-i.i _ (omega arith) (omega arith) c.loop-i.invariant.1)
+returns c = all_from_yields_List (λ x. ltb x c.args.limit) _ _ _ c.all.ensures.ran (YieldsList-from_slice c.args.qs.now c.iter.ensures.rest) (λ x b q e. search rules)
+    ∙ all_bytes (λ x. ltb x c.args.limit) c.args.qs.now

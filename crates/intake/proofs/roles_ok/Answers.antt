@@ -1,18 +1,8 @@
-use Prim.Native.Nat.{◌-◌}
-use mathlib.Core.Path.{◌∙◌, sym}
-use mathlib.Core.Bool.{true}
-use native.Mathlib.Omega.{arith}
-use Rattle.logic.specs.Bounded.{all_none, all_stop, all_more, all_done}
+use Rattle.std.proofs.Common.{rules, refl}
+use Rattle.std.proofs.lemmas.Iterator.{YieldsList-from_range}
+use Rattle.logic.proofs.Ranges.{all_range}
+use Rattle.intake.specs.Steps.{role_kept}
 use Rattle.intake.proofs.roles_ok.Goals as goal
 
-pub loop-r-init : goal.loop-r-init
-loop-r-init c = (omega arith, omega arith, all_none _)
-
-pub returns-then-not-role_ok : goal.returns-then-not-role_ok
-returns-then-not-role_ok c = sym (all_stop _ c.loop-r.r _ (omega arith) (sym c.role_ok.ensures ∙ c.if-not-role_ok.true))
-
-pub loop-r-preserved : goal.loop-r-preserved
-loop-r-preserved c = (omega arith, c.loop-r.invariant.1, all_more _ c.loop-r.r c.loop-r.invariant.2 (sym c.role_ok.ensures ∙ c.if-not-role_ok.false))
-
 pub returns : goal.returns
-returns c = sym (all_done _ c.loop-r.r _ (omega arith) (omega arith) c.loop-r.invariant.2)
+returns c = all_range (role_kept c.args.rs.now) _ _ _ _ c.all.ensures.ran (YieldsList-from_range 0 _ _ refl refl) (λ x b q e. search rules)

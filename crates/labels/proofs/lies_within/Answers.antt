@@ -1,8 +1,8 @@
-use Rattle.logic.specs.Sets.{within}
-use native.Mathlib.Omega.{arith}
+use Rattle.std.proofs.Common.{◌∙◌, ap₂, arith}
+use Rattle.std.specs.Prelude.{◌&&◌}
 use Rattle.labels.specs.Blocks.{within_block}
 use Rattle.labels.proofs.lies_within.Goals as goal
 
 pub returns : goal.returns
-unfolding within
-returns c = let x = c.args.x in let y = c.args.y in within_block 64 x.high y.high x.low y.low (omega arith) (omega arith)
+returns c = let x = c.args.x in let y = c.args.y in
+    ap₂ (λ a b. a && b) c.is_within.ensures c.is_within-2.ensures ∙ within_block 64 x.high y.high x.low y.low (omega arith) (omega arith)

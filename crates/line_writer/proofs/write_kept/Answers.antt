@@ -1,18 +1,47 @@
-use Prim.Native.Nat.{◌%◌}
-use native.Mathlib.Nat.{mod-eq_of_lt}
+use Prim.Native.Nat.{◌≤◌}
 use mathlib.Core.Path.{◌≡◌, ap}
-use Rattle.line_writer.specs.WriteOrder.{size_read, some_copy, copies_few, told_of, too_big, too_short_lem, laid_out}
 use native.Mathlib.Omega.{arith}
+use Rattle.line_writer.specs.WriteOrder.{size_in, size_read, some_copy, copies_few, told_of, too_big, too_short_lem, laid_out}
+use Rattle.line_writer.proofs.write_kept.Goals.{After-element_count-size}
 use Rattle.line_writer.proofs.write_kept.Goals as goal
 
+-- the number of elements, and of copies
+size_is : (c : After-element_count-size) → c.element_count-size.result ≡ size_in c.layout_of-f.result c.args.s.now
+size_is c = size_read c.layout_of-f.result c.args.s.now _ _ _ c.byte-n.ensures c.most_copies-k.ensures.0 c.element_count-size.ensures
+
+some : (c : After-element_count-size) → 1 ≤ c.most_copies-k.result
+some c = some_copy c.layout_of-f.result c.args.s.now _ _ c.most_copies-k.ensures.0
+
+few : (c : After-element_count-size) → c.most_copies-k.result ≤ c.element_count-size.result
+few c = copies_few c.byte-n.result c.most_copies-k.result _ (let b = c.byte-n.ensures in omega arith) c.element_count-size.ensures
+
 pub returns-then-size-gt-MOST_ELEMENTS : goal.returns-then-size-gt-MOST_ELEMENTS
-returns-then-size-gt-MOST_ELEMENTS c = told_of c.args.t c.args.cs.now c.layout_of-f.result c.args.s.now c.args.a.now c.args.buf.now _ _ c.layout_of-f.ensures (too_big c.args.t c.args.cs.now c.layout_of-f.result c.args.s.now c.args.a.now c.args.buf.now _ (size_read c.layout_of-f.result c.args.s.now _ _ _ c.byte-n.ensures c.most_copies-k.ensures.0 c.element_count-size.ensures) (omega arith))
+returns-then-size-gt-MOST_ELEMENTS c = let a = c.args in rw c.whole.ensures
+    (told_of a.t a.cs.now c.layout_of-f.result a.s.now a.a.now a.buf.now _ _ c.layout_of-f.ensures
+    (too_big a.t a.cs.now c.layout_of-f.result a.s.now a.a.now a.buf.now _
+    (size_is (goal.at.returns-then-size-gt-MOST_ELEMENTS c).After-element_count-size) (omega arith)))
+
+pub overflow_cast-p : goal.overflow_cast-p
+overflow_cast-p c = omega arith
+
+pub overflow_cast-p-2 : goal.overflow_cast-p-2
+overflow_cast-p-2 c = let h = few (goal.at.overflow_cast-p-2 c).After-element_count-size in omega arith
+
+pub invariant_of-p : goal.invariant_of-p
+invariant_of-p c = record { some = some (goal.at.invariant_of-p c).After-element_count-size; width = ap (λ g. g.wide) c.layout_of-f.ensures }
 
 pub returns-then-buf-len : goal.returns-then-buf-len
-returns-then-buf-len c = told_of c.args.t c.args.cs.now c.layout_of-f.result c.args.s.now c.args.a.now c.args.buf.now _ _ c.layout_of-f.ensures (too_short_lem c.args.t c.args.cs.now c.layout_of-f.result c.args.s.now c.args.a.now c.args.buf.now _ (size_read c.layout_of-f.result c.args.s.now _ _ _ c.byte-n.ensures c.most_copies-k.ensures.0 c.element_count-size.ensures) (omega arith) (omega arith))
+returns-then-buf-len c = let a = c.args in rw c.whole-then-buf-len.ensures
+    (told_of a.t a.cs.now c.layout_of-f.result a.s.now a.a.now a.buf.now _ _ c.layout_of-f.ensures
+    (too_short_lem a.t a.cs.now c.layout_of-f.result a.s.now a.a.now a.buf.now _
+    (size_is (goal.at.returns-then-buf-len c).After-element_count-size) (omega arith) (omega arith)))
 
 pub lay_line-requires : goal.lay_line-requires
-lay_line-requires c = let k = c.most_copies-k in let z = c.element_count-size in let v = copies_few c.byte-n.result k.result z.result (let b = c.byte-n.ensures in omega arith) z.ensures in let u = some_copy c.layout_of-f.result c.args.s.now _ k.result k.ensures.0 in let x : k.result % 256 ≡ k.result = mod-eq_of_lt (omega arith) in let y : z.result % 256 ≡ z.result = mod-eq_of_lt (omega arith) in let l = c.line_length-len.ensures in rw (x, y) (u, omega arith, ap (λ g. g.wide) c.layout_of-f.ensures)
+lay_line-requires c = let l = c.len-len.ensures in omega arith
 
 pub returns : goal.returns
-returns c = let k = c.most_copies-k in let z = c.element_count-size in let v = copies_few c.byte-n.result k.result z.result (let b = c.byte-n.ensures in omega arith) z.ensures in told_of c.args.t c.args.cs.now c.layout_of-f.result c.args.s.now c.args.a.now c.args.buf.now _ _ c.layout_of-f.ensures (laid_out c.args.t c.args.cs.now c.layout_of-f.result c.args.s.now c.args.a.now c.args.buf.now z.result (size_read c.layout_of-f.result c.args.s.now _ _ _ c.byte-n.ensures c.most_copies-k.ensures.0 c.element_count-size.ensures) _ _ k.result c.line_length-len.result c.byte-n.ensures k.ensures.0 (omega arith) c.line_length-len.ensures (omega arith) (omega arith) c.lay_line.ensures)
+returns c = let a = c.args in
+    told_of a.t a.cs.now c.layout_of-f.result a.s.now a.a.now a.buf.now _ _ c.layout_of-f.ensures
+    (laid_out a.t a.cs.now c.layout_of-f.result a.s.now a.a.now a.buf.now _
+    (size_is (goal.at.returns c).After-element_count-size) _ _ _ c.len-len.result c.byte-n.ensures c.most_copies-k.ensures.0 c.len-len.ensures
+    (omega arith) (omega arith) c.lay_line.ensures)

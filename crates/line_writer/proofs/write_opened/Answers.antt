@@ -1,13 +1,13 @@
-use mathlib.Core.Path.{◌∙◌, sym, ap}
-use Rattle.answers.specs.Answers.{refusal_of}
+use Rattle.std.proofs.lemmas.Result.{err_from_is_err_and}
 use Rattle.line_writer.specs.WriteOrder.{some_record, graph_on, graph_stops}
 use Rattle.line_writer.proofs.write_opened.Goals as goal
 
+pub returns-in_err-test_sample : goal.returns-in_err-test_sample
+returns-in_err-test_sample c = let a = c.args in let p = err_from_is_err_and c.from_residual.result c.from_residual.ensures.1 in
+    rw (p.1, p.2) (graph_stops a.a.now a.roles a.cs.now a.qs.now a.s.now a.buf.now _ c.in_err-test_sample.ensures)
+
 pub write_kept-requires : goal.write_kept-requires
-write_kept-requires c = some_record c.args.a.now c.args.roles c.args.cs.now c.args.qs.now c.args.s.now c.args.buf.now (sym (ap refusal_of c.in-Fine.is) ∙ c.test_sample-tested.ensures)
+write_kept-requires c = let a = c.args in some_record a.a.now a.roles a.cs.now a.qs.now a.s.now a.buf.now c.in_ok-test_sample.ensures
 
-pub returns-in-Fine : goal.returns-in-Fine
-returns-in-Fine c = graph_on c.args.a.now c.args.roles c.args.cs.now c.args.qs.now c.args.s.now c.args.buf.now (sym (ap refusal_of c.in-Fine.is) ∙ c.test_sample-tested.ensures) _ _ _ c.transitive_roles.ensures c.write_kept.ensures
-
-pub returns-in-Refused : goal.returns-in-Refused
-returns-in-Refused c = graph_stops c.args.a.now c.args.roles c.args.cs.now c.args.qs.now c.args.s.now c.args.buf.now _ _ (sym (ap refusal_of c.in-Refused.is) ∙ c.test_sample-tested.ensures)
+pub returns : goal.returns
+returns c = let a = c.args in graph_on a.a.now a.roles a.cs.now a.qs.now a.s.now a.buf.now c.in_ok-test_sample.ensures _ _ _ c.transitive_roles.ensures c.write_kept.ensures

@@ -14,9 +14,9 @@ returns-then-is_mark c = let g = c.args in
 pub returns-in_default : goal.returns-in_default
 returns-in_default c = let g = c.args in
     by_none g.f.marks (label_of g.f g.s.now) g.cell _ c.is_mark.ensures c.if-is_mark.false
-    _ _ c.cell_answer-answer.ensures.0 c.in_default.is
+    _ _ c.cell_answer.ensures.0 c.in_default.is
 
 pub returns : goal.returns
 returns c = let g = c.args in
     c.lies_within.ensures ∙ by_cite g.f.marks (label_of g.f g.s.now) g.cell _ c.is_mark.ensures
-    c.if-is_mark.false _ _ c.cell_answer-answer.ensures.0 _ _ c.in-Knows.is c.record_label-shut_by.ensures
+    c.if-is_mark.false _ _ c.cell_answer.ensures.0 _ _ c.in-Some.is c.record_label-shut_by.ensures

@@ -1,7 +1,6 @@
-use Prim.Native.Nat.{ℕ, ◌+◌, ◌^◌, ◌<◌}
+use Prim.Native.Nat.{ℕ, ◌+◌, ◌-◌, ◌^◌}
 use mathlib.Core.Path.{◌≡◌, ◌∙◌, sym, ap}
 use mathlib.Core.Bool.{Bool, false≢true}
-use native.Mathlib.Nat.{mod-eq_of_lt}
 use native.Mathlib.Omega.{arith}
 use lib.Pow.{pow_pos}
 use borrow.Author.Rules.{rules}
@@ -34,61 +33,60 @@ told c m = let g = c.args in let n = c.up_to-n in let b = c.above_of-above in
 
 here : (c : After-cell_ok) → let g = c.args in c.cell_ok.result
     ≡ gathered_on g.f.marks g.m.now (label_of g.f g.s.now) c.above_of-above.result
-    c.own_of-own.result c.shown_of-shown.result c.against_of-against.result g.ds.now c.up_to-n.result (c.loop-cells.cells + 1)
-here c = let g = c.args in
+    c.own_of-own.result c.shown_of-shown.result c.against_of-against.result g.ds.now c.up_to-n.result c.loop-c.c
+here c = let g = c.args in let z : c.loop-c.c - 1 + 1 ≡ c.loop-c.c = omega (arith, c.loop-c.auto.c) in
     cell_at_lem g.f.marks g.m.now (label_of g.f g.s.now) c.above_of-above.result
     c.own_of-own.result c.shown_of-shown.result c.against_of-against.result g.ds.now c.up_to-n.result
-    (c.loop-cells.cells + 1) _ c.cell_roles.result _ (omega arith) c.byte-cell.ensures (search rules)
-    (c.cell_roles.ensures.roles _ _ (c.next_cell-changes.ensures.roles c.loop-cells.invariant.6)) c.cell_ok.ensures
+    c.loop-c.c _ c.cell_roles.result _ c.loop-c.auto.c c.byte-cell.ensures (search rules)
+    (rw z at (c.cell_roles.ensures.roles _ _ (c.next_cell-changes.ensures.roles c.loop-c.invariant.2))) c.cell_ok.ensures
 
-pub loop-cells-init : goal.loop-cells-init
-loop-cells-init c = let b = c.cell_count in let n = c.up_to-n in let p = pow_pos n.result in
-    let few : b.result < 256 = omega (arith, b.ensures.1) in
-    let e = mod-eq_of_lt few ∙ b.ensures.0 ∙ ap (λ m. 2 ^ m) (sym n.ensures.0) in let g = c.args in (
-      omega (arith, e, p),
-      omega (arith, b.ensures.1, mod-eq_of_lt few),
-      n.ensures.1,
-      e,
-      no_cell g.f.marks g.m.now (label_of g.f g.s.now) c.above_of-above.result
-          c.own_of-own.result c.shown_of-shown.result c.against_of-against.result g.ds.now n.result,
-      count_start,
-      walk_start c.above_of-above.result,
-    )
+pub loop-c-init : goal.loop-c-init
+loop-c-init c = let g = c.args in (
+  no_cell g.f.marks g.m.now (label_of g.f g.s.now) c.above_of-above.result
+      c.own_of-own.result c.shown_of-shown.result c.against_of-against.result g.ds.now c.up_to-n.result,
+  count_start,
+  walk_start c.above_of-above.result,
+)
+
+-- the number of cells
+end_is : (c : After-shown_of-shown) → c.cell_count-end.result ≡ 2 ^ c.up_to-n.result
+end_is c = c.cell_count-end.ensures.0 ∙ ap (λ m. 2 ^ m) (sym c.up_to-n.ensures.0)
 
 pub overflow_add-changes : goal.overflow_add-changes
 overflow_add-changes c =
-    let few = few_changes c.loop-cells.cells _ _ (omega arith) c.loop-cells.invariant.5 c.next_cell-changes.ensures.count in omega arith
+    let few = few_changes (c.loop-c.c - 1) _ _ (omega (arith, c.cell_count-end.ensures.1)) c.loop-c.invariant.1
+    c.next_cell-changes.ensures.count in omega arith
 
 pub returns-then-not-cell_ok : goal.returns-then-not-cell_ok
-returns-then-not-cell_ok c = let v = c.loop-cells.invariant in let s = (goal.at.returns-then-not-cell_ok c).After-shown_of-shown in
-    let t = test s in let e = c.ended_at.ensures in
-    tally_as (rw (e.0, e.1, e.2) (record {
-      count = ap (λ n. n + c.next_cell-changes.result) v.5 ∙ c.next_cell-changes.ensures.count;
-      before = v.4;
-      here = all_next t (c.loop-cells.cells + 1) _ v.4
-          (sym c.if-not-cell_ok.true ∙ here (goal.at.returns-then-not-cell_ok c).After-cell_ok);
-      inside = omega arith;
+returns-then-not-cell_ok c = let v = c.loop-c.invariant in let s = (goal.at.returns-then-not-cell_ok c).After-shown_of-shown in
+    let t = test s in let e = c.ended_at.ensures in let j = c.loop-c.c in
+    let z : j - 1 + 1 ≡ j = omega (arith, c.loop-c.auto.c) in
+    tally_as (rw (e.0, e.1) (record {
+      count = ap (λ n. n + c.next_cell-changes.result) v.1 ∙ (rw z at c.next_cell-changes.ensures.count);
+      before = v.0;
+      here = all_next t j _ v.0 (sym c.if-not-cell_ok.true ∙ here (goal.at.returns-then-not-cell_ok c).After-cell_ok);
+      inside = omega (arith, end_is s);
       whole = λ u. absurd (false≢true u);
     })) _ _ c.up_to-n.ensures.0 (told s)
 
-pub loop-cells-preserved : goal.loop-cells-preserved
-loop-cells-preserved c = let v = c.loop-cells.invariant in (
-  omega arith,
-  v.1,
-  v.2,
-  v.3,
-  all_more (test (goal.at.loop-cells-preserved c).After-shown_of-shown) (c.loop-cells.cells + 1) v.4
-      (sym (here (goal.at.loop-cells-preserved c).After-cell_ok) ∙ c.if-not-cell_ok.false),
-  ap (λ n. n + c.next_cell-changes.result) v.5 ∙ c.next_cell-changes.ensures.count,
-  c.next_cell-changes.ensures.roles v.6,
-)
+pub loop-c-preserved : goal.loop-c-preserved
+loop-c-preserved c = let v = c.loop-c.invariant in let j = c.loop-c.c in
+    let z : j - 1 + 1 ≡ j = omega (arith, c.loop-c.auto.c) in let y : j + 1 - 1 ≡ j = omega arith in (
+      all_more (test (goal.at.loop-c-preserved c).After-shown_of-shown) j v.0
+          (sym (here (goal.at.loop-c-preserved c).After-cell_ok) ∙ c.if-not-cell_ok.false),
+      rw y (ap (λ n. n + c.next_cell-changes.result) v.1 ∙ (rw z at c.next_cell-changes.ensures.count)),
+      rw y (rw z at (c.next_cell-changes.ensures.roles v.2)),
+    )
 
 pub returns : goal.returns
-returns c = let v = c.loop-cells.invariant in let s = (goal.at.returns c).After-shown_of-shown in let t = test s in
-    tally_as (record {
-      count = v.5;
-      before = all_intro c.loop-cells.cells t (λ i h. all_elim (c.loop-cells.cells + 1) t v.4 i (omega arith));
-      here = sym v.4;
-      inside = omega arith;
-      whole = λ _. omega arith;
-    }) _ _ c.up_to-n.ensures.0 (told s)
+returns c = let v = c.loop-c.invariant in let s = (goal.at.returns c).After-shown_of-shown in let t = test s in
+    let e = c.ended_at-2.ensures in let j = c.loop-c.c in let p = pow_pos c.up_to-n.result in
+    let last : c.cell_count-end.result ≡ j = omega (arith, c.loop-c.auto.c, c.loop-c.auto.c-end, end_is s, p) in
+    let z : j - 1 + 1 ≡ j = omega (arith, c.loop-c.auto.c) in
+    tally_as (rw (e.0, e.1, last) (record {
+      count = v.1;
+      before = all_intro (j - 1) t (λ i h. all_elim j t v.0 i (omega arith));
+      here = rw z (sym v.0);
+      inside = omega (arith, end_is s, c.loop-c.auto.c);
+      whole = λ _. omega (arith, end_is s, c.loop-c.auto.c);
+    })) _ _ c.up_to-n.ensures.0 (told s)

@@ -1,15 +1,16 @@
-use native.Mathlib.Omega.{arith}
-use Prim.Native.Nat.{◌-◌}
 use mathlib.Core.Path.{◌≡◌}
-use Rattle.list_leaf.specs.WeightSteps.{parts_none, parts_more}
+use mathlib.Core.Bool.{cond}
+use Prim.Native.Nat.{◌≤◌}
+use lib.Dec.{ltb}
+use native.Mathlib.Omega.{arith}
+use borrow.Author.Rules.{rules}
+use Rattle.rows.proofs.Made.{each_made}
+use Rattle.list_leaf.specs.Weights.{part_at}
+use Rattle.list_leaf.specs.WeightSteps.{parts_made}
 use Rattle.list_leaf.proofs.row_parts.Goals as goal
 
-pub loop-i-init : goal.loop-i-init
-loop-i-init c = (omega arith, omega arith, omega arith, parts_none _ _)
-
-pub loop-i-preserved : goal.loop-i-preserved
-loop-i-preserved c = let v = c.loop-i in let a = c.args in
-    (v.invariant.0, v.invariant.1, omega arith, parts_more a.way a.ms.now v.i v.ps c.part.result (omega arith) c.part.ensures.0 c.part.ensures.1 v.invariant.3)
-
 pub returns : goal.returns
-returns c = let v = c.loop-i in let z : v.i ≡ c.args.k = omega arith in rw (← z) v.invariant.3
+returns c = let g = c.args in let r = c.from_fn.ensures.items in
+    parts_made g.way g.ms.now g.k c.from_fn.result r.long
+    (each_made (λ i b. (b ≡ cond (ltb i g.k) (part_at g.way g.ms.now i) 0) × (b ≤ 16711680)) 0 (λ i b q e. search rules) c.from_fn.result 6 r)
+    (omega arith)

@@ -1,18 +1,7 @@
-use Prim.Native.Nat.{◌-◌}
-use mathlib.Core.Path.{◌∙◌, sym}
-use mathlib.Core.Bool.{true}
-use native.Mathlib.Omega.{arith}
-use Rattle.logic.specs.Bounded.{all_none, all_stop, all_more, all_done}
+use Rattle.std.proofs.Common.{rules, refl}
+use Rattle.std.proofs.lemmas.Iterator.{YieldsList-from_range}
+use Rattle.logic.proofs.Ranges.{all_range}
 use Rattle.list_rows.proofs.rows_named.Goals as goal
 
-pub loop-j-init : goal.loop-j-init
-loop-j-init c = (omega arith, all_none _)
-
-pub returns-then-not-row_named : goal.returns-then-not-row_named
-returns-then-not-row_named c = sym (all_stop _ c.loop-j.j _ (omega arith) (sym c.row_named.ensures ∙ c.if-not-row_named.true))
-
-pub loop-j-preserved : goal.loop-j-preserved
-loop-j-preserved c = (omega arith, all_more _ c.loop-j.j c.loop-j.invariant.1 (sym c.row_named.ensures ∙ c.if-not-row_named.false))
-
 pub returns : goal.returns
-returns c = sym (all_done _ c.loop-j.j _ (omega arith) (omega arith) c.loop-j.invariant.1)
+returns c = all_range _ _ _ _ _ c.all.ensures.ran (YieldsList-from_range 0 _ _ refl refl) (λ x b q e. search rules)

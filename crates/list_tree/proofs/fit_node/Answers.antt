@@ -1,6 +1,7 @@
 use mathlib.Core.Bool.{true, false}
 use Prim.Native.Nat.{◌+◌, ◌≤◌}
-use mathlib.Core.Path.{◌≡◌, ◌∙◌, sym}
+use mathlib.Core.Path.{◌≡◌, ◌∙◌, sym, ap}
+use Rattle.std.specs.Prelude.{Some}
 use native.Mathlib.Omega.{arith}
 use lib.ListN.{length}
 use Rattle.parts.specs.Numbers.{byte_at, num2}
@@ -15,7 +16,7 @@ use Rattle.list_tree.proofs.fit_node.Goals as goal
 room : (c : In-Leaf) → (c.in-Leaf.end ≡ c.args.at + 1 + c.args.n)
     × (c.in-Leaf.end ≤ length c.args.ds.now)
 room c = let a = c.args in
-    leaf_room a.ds.now a.n a.at c.in-Leaf.end (sym c.in-Leaf.is ∙ c.read_node-node.ensures.0)
+    leaf_room a.ds.now a.n a.at c.in-Leaf.end (sym (ap Some c.in-Leaf.is) ∙ c.in_ok-end.ensures.0)
 
 pub overflow_add-at : goal.overflow_add-at
 overflow_add-at c = let r = room (goal.at.overflow_add-at c).In-Leaf in omega arith
@@ -30,27 +31,28 @@ pub slice_bounds-leaf_closes-end : goal.slice_bounds-leaf_closes-end
 slice_bounds-leaf_closes-end c = let r = room (goal.at.slice_bounds-leaf_closes-end c).In-Leaf in omega arith
 
 pub split_fits-requires : goal.split_fits-requires
-split_fits-requires c = let a = c.args in split_room a.ds.now a.n a.at (sym c.in-Split.is ∙ c.read_node-node.ensures.0)
+split_fits-requires c = let a = c.args in split_room a.ds.now a.n a.at (sym (ap Some c.in-Split.is) ∙ c.in_ok-end.ensures.0)
 
-pub returns-in-Off : goal.returns-in-Off
-returns-in-Off c = let a = c.args in fit_told _ _ (fit_off a.ds.now a.k (marked a.marks.now) a.n (limits_held a.k a.way a.n) a.at (sym c.in-Off.is ∙ c.read_node-node.ensures.0))
+pub returns-in_err-end : goal.returns-in_err-end
+returns-in_err-end c = let a = c.args in
+    rw c.from_residual.ensures (fit_told _ _ (fit_off a.ds.now a.k (marked a.marks.now) a.n (limits_held a.k a.way a.n) a.at c.in_err-end.ensures.0))
 
 pub returns-then-leaf_closes : goal.returns-then-leaf_closes
 returns-then-leaf_closes c = let a = c.args in let r = room (goal.at.returns-then-leaf_closes c).In-Leaf in
-    fit_told _ _ (fit_leaf a.ds.now a.k (marked a.marks.now) a.n (limits_held a.k a.way a.n) a.at c.in-Leaf.end true (sym c.in-Leaf.is ∙ c.read_node-node.ensures.0)
+    fit_told _ _ (fit_leaf a.ds.now a.k (marked a.marks.now) a.n (limits_held a.k a.way a.n) a.at c.in-Leaf.end true (sym (ap Some c.in-Leaf.is) ∙ c.in_ok-end.ensures.0)
     (sym c.if-leaf_closes.true ∙ c.leaf_closes.ensures ∙ leaf_part a.ds.now a.marks.now a.k a.n a.at c.in-Leaf.end a.way (omega arith) (omega arith) (omega arith) c.requires.3 r.0 r.1))
 
 pub returns-else-leaf_closes : goal.returns-else-leaf_closes
 returns-else-leaf_closes c = let a = c.args in let r = room (goal.at.returns-else-leaf_closes c).In-Leaf in
-    fit_told _ _ (fit_leaf a.ds.now a.k (marked a.marks.now) a.n (limits_held a.k a.way a.n) a.at c.in-Leaf.end false (sym c.in-Leaf.is ∙ c.read_node-node.ensures.0)
+    fit_told _ _ (fit_leaf a.ds.now a.k (marked a.marks.now) a.n (limits_held a.k a.way a.n) a.at c.in-Leaf.end false (sym (ap Some c.in-Leaf.is) ∙ c.in_ok-end.ensures.0)
     (sym c.if-leaf_closes.false ∙ c.leaf_closes.ensures ∙ leaf_part a.ds.now a.marks.now a.k a.n a.at c.in-Leaf.end a.way (omega arith) (omega arith) (omega arith) c.requires.3 r.0 r.1))
 
 pub returns-then-split_fits : goal.returns-then-split_fits
 returns-then-split_fits c = let a = c.args in
-    fit_told _ _ (fit_split a.ds.now a.k (marked a.marks.now) a.n (limits_held a.k a.way a.n) a.at true (sym c.in-Split.is ∙ c.read_node-node.ensures.0)
+    fit_told _ _ (fit_split a.ds.now a.k (marked a.marks.now) a.n (limits_held a.k a.way a.n) a.at true (sym (ap Some c.in-Split.is) ∙ c.in_ok-end.ensures.0)
     (sym c.if-split_fits.true ∙ c.split_fits.ensures ∙ split_among a.k a.marks.now (byte_at a.ds.now (a.at + 1)) (num2 a.ds.now (a.at + 2)) (omega arith) c.requires.3))
 
 pub returns-else-split_fits : goal.returns-else-split_fits
 returns-else-split_fits c = let a = c.args in
-    fit_told _ _ (fit_split a.ds.now a.k (marked a.marks.now) a.n (limits_held a.k a.way a.n) a.at false (sym c.in-Split.is ∙ c.read_node-node.ensures.0)
+    fit_told _ _ (fit_split a.ds.now a.k (marked a.marks.now) a.n (limits_held a.k a.way a.n) a.at false (sym (ap Some c.in-Split.is) ∙ c.in_ok-end.ensures.0)
     (sym c.if-split_fits.false ∙ c.split_fits.ensures ∙ split_among a.k a.marks.now (byte_at a.ds.now (a.at + 1)) (num2 a.ds.now (a.at + 2)) (omega arith) c.requires.3))

@@ -18,18 +18,17 @@ overflow_add-at c = let a = c.args in
     let f = fit_is_split a.ds.now a.k (marked a.marks.now) a.k (limits_held a.k a.way a.k) a.at c.requires.3 in
     let r = split_room a.ds.now a.k a.at f.0 in omega arith
 
-pub closes_at-next-requires : goal.closes_at-next-requires
-closes_at-next-requires c = let a = c.args in
+pub closes_at-requires : goal.closes_at-requires
+closes_at-requires c = let a = c.args in
     let p = put_behind a.way a.k c.low_half.result _ (omega (arith, c.requires.0)) c.requires.1 c.low_half.ensures in
     (omega arith, omega arith, omega arith, p.size, c.requires.2)
 
-pub returns-then-next-eq0 : goal.returns-then-next-eq0
-returns-then-next-eq0 c = let a = c.args in
+pub returns-in_err-next : goal.returns-in_err-next
+returns-in_err-next c = let a = c.args in
     let p = put_behind a.way a.k c.low_half.result _ (omega (arith, c.requires.0)) c.requires.1 c.low_half.ensures in
-    closed_first a.ds.now a.k (marked a.marks.now) a.k (limits_held a.k a.way a.k) a.at 8 c.requires.3
+    rw c.from_residual.ensures (closed_first a.ds.now a.k (marked a.marks.now) a.k (limits_held a.k a.way a.k) a.at 8 c.requires.3
     (λ e. omega arith)
-    (limits_held a.k (set a.way a.k c.low_half.result) (a.k + 1)) c.closes_at-next.result (p.held a.k
-    (omega arith)) c.if-next-eq0.true c.closes_at-next.ensures
+    (limits_held a.k (set a.way a.k c.low_half.result) (a.k + 1)) (p.held a.k (omega arith)) c.in_err-next.ensures)
 
 pub high_half-requires : goal.high_half-requires
 high_half-requires c = let a = c.args in
@@ -39,8 +38,8 @@ high_half-requires c = let a = c.args in
           (num2 a.ds.now (a.at + 2)) f.1,
     )
 
-pub closes_at-requires : goal.closes_at-requires
-closes_at-requires c = let a = c.args in
+pub closes_at-requires-2 : goal.closes_at-requires-2
+closes_at-requires-2 c = let a = c.args in
     let p = put_again a.way a.k c.low_half.result c.high_half.result _ (omega (arith, c.requires.0)) c.requires.1
     c.high_half.ensures in
     (omega (arith, c.requires.0), omega arith, omega (arith, c.requires.0), p.size, c.requires.2)
@@ -53,5 +52,5 @@ returns c = let a = c.args in let few : a.k < 14 = omega (arith, c.requires.0) i
     (λ e. omega arith)
     (limits_held a.k (set a.way a.k c.low_half.result) (a.k + 1)) (limits_held a.k (set (set a.way a.k
     c.low_half.result) a.k c.high_half.result) (a.k + 1))
-    c.closes_at-next.result c.closes_at.result (p.held a.k (omega arith)) (q.held a.k (omega arith))
-    c.if-next-eq0.false c.closes_at-next.ensures c.closes_at.ensures
+    c.in_ok-next.next _ (p.held a.k (omega arith)) (q.held a.k (omega arith))
+    c.in_ok-next.ensures c.closes_at-2.ensures

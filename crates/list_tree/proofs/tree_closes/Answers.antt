@@ -1,5 +1,6 @@
 use Prim.Native.Nat.{◌+◌, ◌-◌}
-use mathlib.Core.Path.{◌∙◌, sym}
+use mathlib.Core.Path.{◌∙◌, sym, ap}
+use Rattle.std.specs.Prelude.{Some}
 use lib.ListN.{take, drop}
 use native.Mathlib.Omega.{arith}
 use Rattle.list_leaf.specs.Leaf.{limits_held, marked}
@@ -17,8 +18,8 @@ overflow_sub-start c = let e = cells_told c.args.k c.cell_count.result (omega ar
 pub returns-then-ds-start : goal.returns-then-ds-start
 returns-then-ds-start c = let a = c.args in let n = c.cell_count in let e = cells_told a.k n.result (omega arith) n.ensures.0 in closing_cut a.rows a.ds.now a.k (omega arith) (omega arith)
 
-pub fit_node-root-requires : goal.fit_node-root-requires
-fit_node-root-requires c = let o = c.open_cells-marks in let l = c.row_limits-way in let b = c.cell_count in let a = c.args in (omega arith, omega arith, omega arith, among_made a.k (take (2 + a.k + (b.result - 1) - (2 + a.k)) (drop (2 + a.k) a.ds.now)) o.result o.ensures.0 o.ensures.1)
+pub fit_node-requires : goal.fit_node-requires
+fit_node-requires c = let o = c.open_cells-marks in let l = c.row_limits-way in let b = c.cell_count in let a = c.args in (omega arith, omega arith, omega arith, among_made a.k (take (2 + a.k + (b.result - 1) - (2 + a.k)) (drop (2 + a.k) a.ds.now)) o.result o.ensures.0 o.ensures.1)
 
 pub halves_close-requires : goal.halves_close-requires
 halves_close-requires c = let o = c.open_cells-marks in
@@ -29,20 +30,32 @@ halves_close-requires c = let o = c.open_cells-marks in
       l.ensures.0,
       among_made a.k (take (2 + a.k + (b.result - 1) - (2 + a.k)) (drop (2 + a.k) a.ds.now)) o.result o.ensures.0
           o.ensures.1,
-      sym c.in-Splitting.is ∙ c.fit_node-root.ensures.0,
+      sym (ap Some c.in-Some-Splitting.field-0-is) ∙ sym c.in-Some-Splitting.is ∙ c.fit_node.ensures.0,
     )
 
-pub returns-in-Unfit : goal.returns-in-Unfit
-returns-in-Unfit c = let o = c.open_cells-marks in let l = c.row_limits-way in let b = c.cell_count in let a = c.args in let e = cells_told a.k b.result (omega arith) b.ensures.0 in closing_told a.rows a.ds.now a.k l.result _ (0) (omega arith) (omega arith) (omega arith) l.ensures.1 o.result o.ensures.0 o.ensures.1 (closed_off a.ds.now a.k (marked o.result) a.k (limits_held a.k l.result a.k) (2 + a.k + (b.result - 1)) 8 (sym c.in-Unfit.is ∙ c.fit_node-root.ensures.0))
-
-pub returns-in-Closing : goal.returns-in-Closing
-returns-in-Closing c = let o = c.open_cells-marks in let l = c.row_limits-way in let b = c.cell_count in let a = c.args in let e = cells_told a.k b.result (omega arith) b.ensures.0 in closing_told a.rows a.ds.now a.k l.result _ c.in-Closing.end (omega arith) (omega arith) (omega arith) l.ensures.1 o.result o.ensures.0 o.ensures.1 (closed_leaf a.ds.now a.k (marked o.result) a.k (limits_held a.k l.result a.k) (2 + a.k + (b.result - 1)) 8 c.in-Closing.end (sym c.in-Closing.is ∙ c.fit_node-root.ensures.0))
-
-pub returns-in-Splitting : goal.returns-in-Splitting
-returns-in-Splitting c = let o = c.open_cells-marks in
+pub returns-in-None : goal.returns-in-None
+returns-in-None c = let o = c.open_cells-marks in
     let l = c.row_limits-way in
     let b = c.cell_count in
     let a = c.args in
     let e = cells_told a.k b.result (omega arith) b.ensures.0 in
-    closing_told a.rows a.ds.now a.k l.result _ c.halves_close.result (omega arith) (omega arith) (omega arith)
+    closing_told a.rows a.ds.now a.k l.result _ _ (omega arith) (omega arith) (omega arith) l.ensures.1 o.result o.ensures.0 o.ensures.1
+    (closed_off a.ds.now a.k (marked o.result) a.k (limits_held a.k l.result a.k) (2 + a.k + (b.result - 1)) 8 (sym c.in-None.is ∙ c.fit_node.ensures.0))
+
+pub returns-in-Some-Closing : goal.returns-in-Some-Closing
+returns-in-Some-Closing c = let o = c.open_cells-marks in
+    let l = c.row_limits-way in
+    let b = c.cell_count in
+    let a = c.args in
+    let e = cells_told a.k b.result (omega arith) b.ensures.0 in
+    closing_told a.rows a.ds.now a.k l.result _ _ (omega arith) (omega arith) (omega arith) l.ensures.1 o.result o.ensures.0 o.ensures.1
+    (closed_leaf a.ds.now a.k (marked o.result) a.k (limits_held a.k l.result a.k) (2 + a.k + (b.result - 1)) 8 _ (sym (ap Some c.in-Some-Closing.field-0-is) ∙ sym c.in-Some-Closing.is ∙ c.fit_node.ensures.0))
+
+pub returns-in-Some-Splitting : goal.returns-in-Some-Splitting
+returns-in-Some-Splitting c = let o = c.open_cells-marks in
+    let l = c.row_limits-way in
+    let b = c.cell_count in
+    let a = c.args in
+    let e = cells_told a.k b.result (omega arith) b.ensures.0 in
+    c.is_some.ensures ∙ closing_told a.rows a.ds.now a.k l.result _ c.halves_close.result (omega arith) (omega arith) (omega arith)
     l.ensures.1 o.result o.ensures.0 o.ensures.1 c.halves_close.ensures

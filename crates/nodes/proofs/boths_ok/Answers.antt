@@ -1,19 +1,11 @@
-use Prim.Native.Nat.{◌-◌}
-use mathlib.Core.Path.{◌∙◌, sym}
-use mathlib.Core.Bool.{true}
-use native.Mathlib.Omega.{arith}
-use Rattle.logic.specs.Bounded.{all_none, all_stop, all_more, all_done}
+use Rattle.std.proofs.Common.{rules, refl, ap, ◌∙◌}
+use Rattle.std.proofs.lemmas.Iterator.{YieldsList-from_range}
+use Rattle.logic.specs.Bounded.{all_below}
+use Rattle.logic.proofs.Ranges.{all_range}
+use Rattle.labels.specs.Labels.{value_of}
 use Rattle.nodes.specs.NodeSteps.{both_at}
 use Rattle.nodes.proofs.boths_ok.Goals as goal
 
-pub loop-e-init : goal.loop-e-init
-loop-e-init c = (omega arith, c.entry_count-n.ensures.1, all_none _)
-
-pub returns-then-not-both_at : goal.returns-then-not-both_at
-returns-then-not-both_at c = sym (all_stop _ c.loop-e.e _ (omega arith) (sym c.both_at.ensures ∙ c.if-not-both_at.true))
-
-pub loop-e-preserved : goal.loop-e-preserved
-loop-e-preserved c = (omega arith, c.loop-e.invariant.1, all_more _ c.loop-e.e c.loop-e.invariant.2 (sym c.both_at.ensures ∙ c.if-not-both_at.false))
-
 pub returns : goal.returns
-returns c = sym (all_done _ c.loop-e.e _ (omega arith) (omega arith) c.loop-e.invariant.2)
+returns c = let test = both_at c.args.cs.now (value_of c.args.x) in
+    all_range test _ _ _ _ c.all.ensures.ran (YieldsList-from_range 0 _ _ refl refl) (λ x b q e. search rules) ∙ ap (λ n. all_below n test) c.entry_count.ensures.0

@@ -6,7 +6,4 @@ use Rattle.nodes.specs.NodeSteps.{with_rules}
 use Rattle.nodes.proofs.with_rules.Given as goal
 
 abbrev pub invariant-loop-i : goal.invariant-loop-i
-invariant-loop-i l = (l.i ≤ (length l.qs - 1)) × (value_of l.y ≡ with_rules l.qs l.i (value_of l.initial.y))
-
-abbrev pub decreases-loop-i : goal.decreases-loop-i
-decreases-loop-i l = (length l.qs - 1) - l.i
+invariant-loop-i l = (l.i - 1 ≤ length l.qs - 1) × (value_of l.y ≡ with_rules l.qs (l.i - 1) (value_of l.initial.y))

@@ -3,4 +3,4 @@ use Rattle.shq_c.specs.Packed.{packed}
 use Rattle.shq_c.proofs.shq_claim.Goals as goal
 
 pub returns : goal.returns
-returns c = c.of_judgement.ensures ∙ ap packed c.check_claim.ensures
+returns c = c.packed.ensures ∙ ap packed c.check_claim.ensures

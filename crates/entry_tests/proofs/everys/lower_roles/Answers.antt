@@ -1,17 +1,16 @@
-use Prim.Native.Nat.{◌-◌}
-use mathlib.Core.Path.{refl}
-use Rattle.parts.specs.Filling.{filled_none, filled_more}
-use native.Mathlib.Omega.{arith}
+use Rattle.std.proofs.Common.{◌∙◌, refl, arith}
+use Rattle.std.proofs.lemmas.List.{get_or-replicate}
+use Rattle.words.specs.Words.{in_word_lem, set_none, set_more, set_done}
+use Rattle.roles.specs.Records.{role_at}
+use Rattle.entry_tests.specs.Everys.{below_is}
 use Rattle.entry_tests.proofs.everys.lower_roles.Goals as goal
 
-pub loop-r-init : goal.loop-r-init
-loop-r-init c = (omega arith, c.requires, filled_none _ _ _ refl)
+pub loop-i-init : goal.loop-i-init
+loop-i-init c = λ r h. get_or-replicate 16 r 0 0 h ∙ set_none (λ i. below_is (role_at c.args.t.now i) r)
 
-pub below-requires : goal.below-requires
-below-requires c = c.loop-r.invariant.1
-
-pub loop-r-preserved : goal.loop-r-preserved
-loop-r-preserved c = (omega arith, c.loop-r.invariant.1, filled_more _ (omega arith) c.below.ensures c.loop-r.invariant.2)
+pub loop-i-preserved : goal.loop-i-preserved
+loop-i-preserved c = λ r h. set_more (λ i. below_is (role_at c.args.t.now i) r) _ _ _ _ (c.loop-i.invariant r h)
+    (in_word_lem 16 c.loop-i.i _ _ (omega arith) refl) (c.with_role-next.ensures r h)
 
 pub returns : goal.returns
-returns c = λ i h. c.loop-r.invariant.2.at i (omega arith)
+returns c = λ r h. set_done (λ i. below_is (role_at c.args.t.now i) r) _ _ _ (omega arith) (omega arith) (c.loop-i.invariant r h)

@@ -1,15 +1,12 @@
 use native.Mathlib.Omega.{arith}
-use Rattle.line_reader.specs.LineSteps.{few_pairs, size_read}
+use Rattle.line_reader.specs.LineSteps.{few_pairs}
 use Rattle.line_reader.proofs.form.size_ok.Goals as goal
 
 pub overflow_mul-result : goal.overflow_mul-result
-overflow_mul-result c = let z = few_pairs 255 c.byte-d.result c.byte-d.result (omega arith) (omega arith) in omega arith
+overflow_mul-result c = let z = few_pairs 255 c.args.d c.args.d (omega arith) (omega arith) in omega arith
 
 pub overflow_mul-result-2 : goal.overflow_mul-result-2
-overflow_mul-result-2 c = let z = few_pairs 255 c.byte-d.result c.byte-d.result (omega arith) (omega arith) in omega arith
+overflow_mul-result-2 c = let z = few_pairs 255 c.args.d c.args.d (omega arith) (omega arith) in omega arith
 
 pub overflow_add-result : goal.overflow_add-result
-overflow_add-result c = let z = few_pairs 255 c.byte-d.result c.byte-d.result (omega arith) (omega arith) in omega arith
-
-pub returns : goal.returns
-returns c = size_read _ c.args.s.now _ _ c.byte-d.ensures c.name_at.ensures.0
+overflow_add-result c = let z = few_pairs 255 c.args.d c.args.d (omega arith) (omega arith) in omega arith

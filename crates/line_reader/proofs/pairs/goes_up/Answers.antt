@@ -1,10 +1,8 @@
 use mathlib.Core.Path.{refl, sym, ◌∙◌}
-use Rattle.logic.specs.Sets.{within}
 use Rattle.line_reader.proofs.pairs.goes_up.Goals as goal
 
-pub returns-then-has16 : goal.returns-then-has16
-unfolding within
-returns-then-has16 c = rw (sym c.has16.ensures ∙ c.if-has16.true) refl
+pub returns-then-has : goal.returns-then-has
+returns-then-has c = c.is_within.ensures ∙ rw (sym c.has.ensures ∙ c.if-has.true) refl
 
-pub returns-else-has16 : goal.returns-else-has16
-returns-else-has16 c = rw (sym c.has16.ensures ∙ c.if-has16.false) refl
+pub returns-else-has : goal.returns-else-has
+returns-else-has c = rw (sym c.has.ensures ∙ c.if-has.false) refl

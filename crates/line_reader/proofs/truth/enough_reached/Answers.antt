@@ -6,4 +6,4 @@ use Rattle.logic.specs.Sets.{has}
 use Rattle.line_reader.proofs.truth.enough_reached.Goals as goal
 
 pub returns : goal.returns
-returns c = ap (leb c.args.n) (c.set_size.ensures ∙ ap (λ m. count_below c.args.d (has (bit_and m c.args.q))) c.row_set.ensures)
+returns c = ap (leb c.args.n) (c.set_size.ensures ∙ ap (λ m. count_below c.args.l.now.size (has (bit_and m c.args.q))) c.row.ensures)

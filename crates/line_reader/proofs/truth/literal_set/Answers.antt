@@ -3,4 +3,4 @@ use Rattle.line_reader.specs.TruthSteps.{literal_of}
 use Rattle.line_reader.proofs.truth.literal_set.Goals as goal
 
 pub returns : goal.returns
-returns c = c.literal_of.ensures ∙ ap (λ x. literal_of c.args.d x c.args.l) c.set_at.ensures
+returns c = c.literal_of.ensures ∙ ap (λ x. literal_of c.args.l.now.size x c.args.v) c.set_at.ensures
