@@ -1,11 +1,10 @@
 // What the rows of a counting step give to its cells, found once a step, and the label that is known of a cell by them.
 #![tactic(auto)]
 
-ghost use Rattle.std.specs.Prelude.{◌≡◌, ◌&&◌, cond, true, List, ℕ, ◌+◌, ◌%◌, ◌<◌, eqb, length, get_or};
+ghost use Rattle.std.specs.Prelude.{◌≡◌, ◌&&◌, cond, true, ℕ, ◌<◌, eqb, length};
 ghost use Rattle.logic.specs.Bounded.{any_below};
 ghost use Rattle.logic.specs.Sets.{has};
 ghost use Rattle.labels.specs.Labels.{most_entries, value_of, label_with};
-ghost use Rattle.tables.specs.Concepts.{fields_struct};
 ghost use Rattle.rows.specs.HeldRows.{given, held_at};
 ghost use Rattle.sources.specs.Sources.{has_above};
 ghost use Rattle.cell_labels.specs.CellShows.{Puts, passes, carried_at};
@@ -14,10 +13,10 @@ ghost use Rattle.cell_labels.specs.CellRows.{only_if, Masks, Labels, mask_at, Gr
 use labels::{Label, empty, holds, join, only, put};
 use nodes::opposite;
 use roles::disjoint::role_bit;
-use rows::{Row, row_at};
+use rows::{Row, Rows, row_at};
 use sources::is_carried;
 use std::array;
-use tables::{EntryNo, Fields, RoleNo, entry_count, fields_at};
+use tables::{EntryNo, RoleNo, entry_count, fields_at};
 use words::Bits;
 
 // The label with the literal `l`, if that is asked.
@@ -73,43 +72,44 @@ fn qualified_by(row: Row, there: bool) -> Label
     if there { only(row.qualifier) } else { empty() }
 }
 
-// The ancestors of the role of each of the first `k` rows.
-pub fn above_of(m: &[u16; 49], rows: [Row; 6], k: u8) -> [u16; 6]
-    ensures { Masks (λ i. above_of m.now (given (held_at rows i))) k result × ((i : ℕ) → i < 6 → mask_at result i < 65536) }
+// The ancestors of the role of each row.
+pub fn above_of(m: &[u16; 49], rows: &Rows) -> [u16; 6]
+    ensures { Masks (λ i. above_of m.now (given (held_at rows.now.held i))) rows.now.count result
+        × ((i : ℕ) → i < 6 → mask_at result i < 65536) }
 {
     array::from_fn(|i| {
         let i = i as u8;
-        above_by(m, row_at(rows, k, i), i < k)
+        above_by(m, row_at(rows, i), i < rows.count)
     })
 }
 
-// The mask of the role of each of the first `k` rows.
-pub fn own_of(rows: [Row; 6], k: u8) -> [u16; 6]
-    ensures { Masks (λ i. bit_of (given (held_at rows i))) k result }
+// The mask of the role of each row.
+pub fn own_of(rows: &Rows) -> [u16; 6]
+    ensures { Masks (λ i. bit_of (given (held_at rows.now.held i))) rows.now.count result }
 {
     array::from_fn(|i| {
         let i = i as u8;
-        own_by(row_at(rows, k, i), i < k)
+        own_by(row_at(rows, i), i < rows.count)
     })
 }
 
-// What each of the first `k` rows shows of other cells that have its role.
-pub fn against_of(rows: [Row; 6], k: u8) -> [u8; 6]
-    ensures { Masks (λ i. denied_by (given (held_at rows i))) k result }
+// What each row shows of other cells that have its role.
+pub fn against_of(rows: &Rows) -> [u8; 6]
+    ensures { Masks (λ i. denied_by (given (held_at rows.now.held i))) rows.now.count result }
 {
     array::from_fn(|i| {
         let i = i as u8;
-        against_by(row_at(rows, k, i), i < k)
+        against_by(row_at(rows, i), i < rows.count)
     })
 }
 
-// The qualifier of each of the first `k` rows.
-fn qualified_of(rows: [Row; 6], k: u8) -> [Label; 6]
-    ensures { Labels (λ i. label_with 0 (held_at rows i).qualifier) k result }
+// The qualifier of each row.
+fn qualified_of(rows: &Rows) -> [Label; 6]
+    ensures { Labels (λ i. label_with 0 (held_at rows.now.held i).qualifier) rows.now.count result }
 {
     array::from_fn(|i| {
         let i = i as u8;
-        qualified_by(row_at(rows, k, i), i < k)
+        qualified_by(row_at(rows, i), i < rows.count)
     })
 }
 
@@ -133,49 +133,37 @@ fn with_passed(old: [Label; 6], above: [u16; 6], t: RoleNo, y: Label) -> [Label;
     array::from_fn(|i| add_if(old[i], y, above[i].has(t.0)))
 }
 
-// Each label with what entry `f`, with the fields `g`, shows of a cell of the row; `carry` has the ancestors of its role if that is transitive.
+// Each label with what entry `f` shows of a cell of the row. A role's ancestors carry it on if the role is transitive: `m` has them apart.
 fn with_every(
     old: [Label; 6],
     cs: &[u8],
-    g: Fields,
-    carry: u16,
+    m: &[u16; 49],
     x: Label,
     above: [u16; 6],
     f: EntryNo,
 ) -> [Label; 6]
-    requires { (length old ≡ 6) × (f.0 < most_entries) × (g ≡ fields_struct cs.now f.0) }
-    ensures { (a : List ℕ) → carry ≡ get_or a (16 + g.role % 16) 0 → Grown old result (entry_shows cs.now a (value_of x) above f.0) }
+    requires { (length old ≡ 6) × (f.0 < most_entries) }
+    ensures { Grown old result (entry_shows cs.now m.now (value_of x) above f.0) }
 {
+    let g = fields_at(cs, f);
     if g.kind == 3 {
-        with_passed(
-            old,
-            above,
-            RoleNo(g.role),
-            passed_by(cs, carry, x, f, g.first),
-        )
+        let carry = m[(16 + g.role % 16) as usize];
+        let shown = passed_by(cs, carry, x, f, g.first);
+        with_passed(old, above, RoleNo(g.role), shown)
     } else {
         old
     }
 }
 
-// What each of the first `k` rows shows of its own cells; `above` has the ancestors of their roles.
+// What each row shows of its own cells; `above` has the ancestors of their roles.
 // The entries are walked once, not once a row; for each "every" of a transitive role once more (`is_carried`).
-pub fn shown_of(
-    cs: &[u8],
-    m: &[u16; 49],
-    x: Label,
-    rows: [Row; 6],
-    k: u8,
-    above: [u16; 6],
-) -> [Label; 6]
-    ensures { Masks (λ i. above_of m.now (given (held_at rows i))) k above → Labels (λ i. shown_by cs.now m.now (value_of x) (carried_at cs.now m.now (value_of x)) (given (held_at rows i))) k result }
+pub fn shown_of(cs: &[u8], m: &[u16; 49], x: Label, rows: &Rows, above: [u16; 6]) -> [Label; 6]
+    ensures { Masks (λ i. above_of m.now (given (held_at rows.now.held i))) rows.now.count above
+        → Labels (λ i. shown_by cs.now m.now (value_of x) (carried_at cs.now m.now (value_of x)) (given (held_at rows.now.held i))) rows.now.count result }
 {
-    let n = entry_count(cs);
-    let mut out = qualified_of(rows, k);
-    for f in 0..n {
-        let g = fields_at(cs, EntryNo(f));
-        let carry = m[(16 + g.role % 16) as usize];
-        let next = with_every(out, cs, g, carry, x, above, EntryNo(f));
+    let mut out = qualified_of(rows);
+    for f in 0..entry_count(cs) {
+        let next = with_every(out, cs, m, x, above, EntryNo(f));
         out = next;
     }
     out
@@ -202,8 +190,14 @@ fn with_row(x: Label, within: bool, shown: Label, reached: bool, against: u8) ->
 }
 
 // What cell `c` shows: the label that every filler of it has. Of the rows outside it the roles tell which are denied.
-pub fn known_label(roles: u16, own: [u16; 6], shown: [Label; 6], against: [u8; 6], c: u8) -> Label
-    ensures { value_of result ≡ gathered_by (has roles) own shown against c }
+pub fn known_label(
+    roles: u16,
+    own: &[u16; 6],
+    shown: &[Label; 6],
+    against: &[u8; 6],
+    c: u8,
+) -> Label
+    ensures { value_of result ≡ gathered_by (has roles) own.now shown.now against.now c }
 {
     let mut out = only(0);
     for i in 0..6u8 {

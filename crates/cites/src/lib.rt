@@ -10,7 +10,7 @@ ghost use Rattle.labels.specs.Labels.{value_of};
 ghost use Rattle.evidence.specs.Evidence.{label_of};
 ghost use Rattle.cites.specs.Cites.{cite_of, cite_refusal, of_entry};
 
-use evidence::{Layout, record_label};
+use evidence::Stored;
 use labels::{Label, MOST_ENTRIES, lies_within, put};
 use tables::EntryNo;
 
@@ -21,29 +21,32 @@ pub fn look_up(i: u8, j: u8) -> Option<u8>
     if j < i { Some(j) } else { None }
 }
 
+// The three tests of a label cited stay apart: a label keeps no literal past its room, so that one test within any label would leave
+// to each caller that a label cited has none there either.
+
 // Whether the label of record `c` lies within `x` with `a` put in.
-pub fn within_one(s: &[u8], c: u8, x: Label, a: u8, f: Layout) -> bool
-    ensures { result ≡ within (label_of f s.now c) (adding (value_of x) (literal a)) }
+pub fn within_one(s: &Stored, c: u8, x: Label, a: u8) -> bool
+    ensures { result ≡ within (label_of s.now.layout s.now.bytes.now c) (adding (value_of x) (literal a)) }
 {
-    lies_within(record_label(s, c, f), put(x, a))
+    lies_within(s.label(c), put(x, a))
 }
 
 // The same with two literals put in.
-pub fn within_two(s: &[u8], c: u8, x: Label, a: u8, b: u8, f: Layout) -> bool
-    ensures { result ≡ within (label_of f s.now c) (adding (adding (value_of x) (literal a)) (literal b)) }
+pub fn within_two(s: &Stored, c: u8, x: Label, a: u8, b: u8) -> bool
+    ensures { result ≡ within (label_of s.now.layout s.now.bytes.now c) (adding (adding (value_of x) (literal a)) (literal b)) }
 {
-    lies_within(record_label(s, c, f), put(put(x, a), b))
+    lies_within(s.label(c), put(put(x, a), b))
 }
 
 // The same with entry `e` put in, or with its complement; no table has an entry past the most, and no label its literals.
-pub fn within_case(s: &[u8], c: u8, x: Label, e: EntryNo, denied: bool, f: Layout) -> bool
-    ensures { result ≡ within (label_of f s.now c) (adding (value_of x) (of_entry e.0 denied)) }
+pub fn within_case(s: &Stored, c: u8, x: Label, e: EntryNo, denied: bool) -> bool
+    ensures { result ≡ within (label_of s.now.layout s.now.bytes.now c) (adding (value_of x) (of_entry e.0 denied)) }
 {
     if MOST_ENTRIES <= e.0 {
-        return lies_within(record_label(s, c, f), x);
+        return lies_within(s.label(c), x);
     }
     if denied {
-        return within_one(s, c, x, 2 * e.0 + 1, f);
+        return within_one(s, c, x, 2 * e.0 + 1);
     }
-    within_one(s, c, x, 2 * e.0, f)
+    within_one(s, c, x, 2 * e.0)
 }

@@ -8,10 +8,9 @@ ghost use Rattle.claims.specs.Claims.{pieces_of, claim_answer};
 ghost use Rattle.claims.specs.ClaimSteps.{counter_set, in_table, literals_code, kinds_after, opened_claim};
 
 use answers::{Judgement, Reason, Refusal};
-use directory::{concepts_part, has_four, query_part};
 use evidence::{Head, read_head};
 use graph_check::test_graph;
-use intake::open_description;
+use intake::{Opening, open_description};
 use labels::{Label, only, put};
 use list_check::test_list;
 use nodes::opposite;
@@ -21,13 +20,6 @@ use nodes::opposite;
 pub struct Claim {
     pub c: u8,
     pub d: u8,
-}
-
-// What is asked of an opened description beside its masks and parts: how many roles it has, and whether it has a fourth part.
-#[derive(Clone, Copy)]
-struct Shape {
-    roles: u8,
-    marks: bool,
 }
 
 // The kinds of the pieces of evidence that fit an answer, in the order given.
@@ -97,31 +89,24 @@ fn test_literals(cs: &[u8], k: Claim) -> Result<(), Refusal>
     Ok(())
 }
 
-// The answer on an opened description with a claim, by the masks of its roles.
-fn check_opened(
-    m: &[u16; 49],
-    shape: Shape,
-    cs: &[u8],
-    qs: &[u8],
-    k: Claim,
-    first: &[u8],
-    second: &[u8],
-) -> Result<Judgement, Refusal>
-    ensures { of_judgement result ≡ opened_claim shape.marks m.now shape.roles cs.now qs.now k.c k.d first.now second.now }
+// The answer on an opened description with a claim.
+fn check_opened(o: &Opening, k: Claim, first: &[u8], second: &[u8]) -> Result<Judgement, Refusal>
+    ensures { let d = o.now in
+        of_judgement result ≡ opened_claim d.marks d.masks d.count d.concepts.now d.query.now k.c k.d first.now second.now }
 {
-    test_literals(cs, k)?;
+    test_literals(o.concepts, k)?;
     match kinds(first, second)? {
         Pieces::ListAndGraph => {
-            test_list(m, cs, qs, counterexample(k), first, shape.marks)?;
-            test_graph(m, shape.roles, cs, qs, only(k.c), second)?;
+            test_list(o, counterexample(k), first)?;
+            test_graph(o, only(k.c), second)?;
             Ok(Judgement::Holds)
         }
         Pieces::GraphAlone => {
-            test_graph(m, shape.roles, cs, qs, counterexample(k), first)?;
+            test_graph(o, counterexample(k), first)?;
             Ok(Judgement::Fails)
         }
         Pieces::ListAlone => {
-            test_list(m, cs, qs, only(k.c), first, shape.marks)?;
+            test_list(o, only(k.c), first)?;
             Ok(Judgement::HoldsOfNothing)
         }
     }
@@ -137,18 +122,7 @@ pub fn check_claim(
 ) -> Result<Judgement, Refusal>
     ensures { of_judgement result ≡ claim_answer description.now c d first.now second.now }
 {
-    let o = open_description(description)?;
-    let shape = Shape {
-        roles: o.count,
-        marks: has_four(description),
-    };
-    check_opened(
-        &o.masks,
-        shape,
-        concepts_part(description),
-        query_part(description),
-        Claim { c, d },
-        first,
-        second,
-    )
+    let o = open_description(description);
+    o.tested?;
+    check_opened(&o, Claim { c, d }, first, second)
 }

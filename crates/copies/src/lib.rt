@@ -7,7 +7,7 @@ ghost use Rattle.edges.specs.EdgeSteps.{edge_count};
 ghost use Rattle.copies.specs.Copying.{taken_at, sum_to, total_to, copies_in, owner_mask};
 
 use edges::edge_count;
-use evidence::{Layout, record_edges};
+use evidence::Stored;
 use parts::{byte, mask2, read2};
 
 // The copies of `y` that the edge at `at` takes: its count, if it leads to `y`. Of all others the target alone is read.
@@ -54,12 +54,12 @@ fn most_to(es: &[u8], n: u8) -> usize
 }
 
 // K: the most that the counts of the edges from one of the `n` records to another add up to; 1 if there is no edge.
-pub fn most_copies(s: &[u8], n: u8, f: Layout) -> usize
-    ensures { (result ≡ copies_in f s.now n) × (result ≤ 32 * 65535) }
+pub fn most_copies(s: &Stored, n: u8) -> usize
+    ensures { (result ≡ copies_in s.now.layout s.now.bytes.now n) × (result ≤ 32 * 65535) }
 {
     let mut most: usize = 1;
     for x in 0..n {
-        let es = record_edges(s, x, f);
+        let es = s.rest(x);
         most = most.max(most_to(es, n));
     }
     most

@@ -62,7 +62,7 @@ pub fn layout_of(cs: &[u8], marks: bool) -> Layout
 {
     Layout {
         wide: is_wide(cs.len() / 6),
-        marks: marks,
+        marks,
     }
 }
 
@@ -89,26 +89,37 @@ fn record_start(s: &[u8], i: u8) -> usize
     read2(s, at)
 }
 
-// The label of record `i`, read in place.
-pub fn record_label(s: &[u8], i: u8, f: Layout) -> Label
-    ensures { value_of result ≡ label_of f s.now i }
-{
-    load(s, record_start(s, i), f.wide)
+// Evidence, with the layout that its records are stored in. They are read in place.
+#[derive(Clone, Copy)]
+pub struct Stored<'a> {
+    pub bytes: &'a [u8],
+    pub layout: Layout,
 }
 
-// The bytes behind the label of record `i`; none if it has no label or does not lie in the evidence.
-pub fn record_edges(s: &[u8], i: u8, f: Layout) -> &[u8]
-    ensures { result.now ≡ edges_part f s.now i }
-{
-    let w = label_bytes(f.wide);
-    let at = 2 + 4 * (i as usize);
-    let from = read2(s, at);
-    let to = from + read2(s, at + 2);
-    if to < from + w {
-        return &s[..0];
+impl<'a> Stored<'a> {
+    // The label of record `i`.
+    pub fn label(&self, i: u8) -> Label
+        ensures { value_of result ≡ label_of self.now.layout self.now.bytes.now i }
+    {
+        let s = self.bytes;
+        load(s, record_start(s, i), self.layout.wide)
     }
-    if s.len() < to {
-        return &s[..0];
+
+    // The bytes behind the label of record `i`, edges or a step; none if it has no label or does not lie in the evidence.
+    pub fn rest(&self, i: u8) -> &'a [u8]
+        ensures { result.now ≡ edges_part self.now.layout self.now.bytes.now i }
+    {
+        let s = self.bytes;
+        let w = label_bytes(self.layout.wide);
+        let at = 2 + 4 * (i as usize);
+        let from = read2(s, at);
+        let to = from + read2(s, at + 2);
+        if to < from + w {
+            return &s[..0];
+        }
+        if s.len() < to {
+            return &s[..0];
+        }
+        &s[from + w..to]
     }
-    &s[from + w..to]
 }

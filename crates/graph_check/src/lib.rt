@@ -11,22 +11,20 @@ ghost use Rattle.graph_check.specs.GraphSteps.{form_code, form_of, need_of, reco
 
 use answers::{Reason, Refusal};
 use edges::edges_ok;
-use evidence::{Head, Layout, layout_of, node_form_ok, read_head, record_edges, record_label};
-use fillers::test_fillers;
+use evidence::{Head, Stored, layout_of, node_form_ok, read_head};
+use fillers::{Record, test_fillers};
+use intake::Opening;
 use labels::{Label, MOST_ENTRIES, empty};
 use nodes::{boths_ok, label_ok, required, root_set};
 use parts::read2;
 use sources::sources;
 
-// The `n` records of the graph `s`, stored so, with what they are tested against: the masks of so many roles and the concepts.
+// The `n` records of the graph `s`, with the opened description that they are tested against.
 #[derive(Clone, Copy)]
 struct Graph<'a> {
-    masks: &'a [u16; 49],
-    roles: u8,
-    cs: &'a [u8],
-    s: &'a [u8],
+    o: &'a Opening<'a>,
+    s: Stored<'a>,
     n: u8,
-    form: Layout,
 }
 
 // What record `i` is to have: `first` if it is record 0, and otherwise `later`.
@@ -39,14 +37,17 @@ fn need_of(first: Label, later: Label, i: u8) -> Label
 impl<'a> Graph<'a> {
     // Test 10 of record `i`.
     fn form_ok(&self, i: u8) -> bool
-        ensures { result ≡ form_code self.now.form self.now.s.now i }
+        ensures { result ≡ form_code self.now.s.layout self.now.s.bytes.now i }
     {
-        node_form_ok(read2(self.s, 2 + 4 * (i as usize) + 2), self.form)
+        node_form_ok(
+            read2(self.s.bytes, 2 + 4 * (i as usize) + 2),
+            self.s.layout,
+        )
     }
 
     // Test 10 of the records.
     fn test_forms(&self) -> Result<(), Refusal>
-        ensures { refusal_of result ≡ refuse_from (form_of self.now.form self.now.s.now) self.now.n 0 none }
+        ensures { refusal_of result ≡ refuse_from (form_of self.now.s.layout self.now.s.bytes.now) self.now.n 0 none }
     {
         for i in 0..self.n {
             if !self.form_ok(i) {
@@ -63,32 +64,39 @@ impl<'a> Graph<'a> {
         i: u8,
         need: Label,
     ) -> Result<(), Refusal>
-        ensures { let g = self.now in
-            refusal_of result ≡ refuse i (record_with g.masks.now g.roles g.cs.now src.now (value_of need) g.form g.s.now g.n i) none }
+        ensures { let g = self.now in let o = g.o.now in
+            refusal_of result ≡ refuse i (record_with o.masks o.count o.concepts.now src.now (value_of need) g.s.layout g.s.bytes.now g.n i) none }
     {
-        let x = record_label(self.s, i, self.form);
-        let es = record_edges(self.s, i, self.form);
-        if !label_ok(self.cs, x, need) {
+        let o = self.o;
+        let x = self.s.label(i);
+        let es = self.s.rest(i);
+        if !label_ok(o.concepts, x, need) {
             return Err(Reason::Label.at(i));
         }
-        if !boths_ok(self.cs, x) {
+        if !boths_ok(o.concepts, x) {
             return Err(Reason::Both.at(i));
         }
-        if !edges_ok(es, self.masks, self.roles, self.n) {
+        if !edges_ok(es, &o.masks, o.count, self.n) {
             return Err(Reason::Edge.at(i));
         }
-        test_fillers(self.cs, src, self.s, i, x, es, self.form)
+        let record = Record {
+            i,
+            x,
+            es,
+            s: self.s,
+        };
+        test_fillers(o.concepts, src, &record)
     }
 
     // Rules 11 to 15 of the records, of which the first is to have `want`.
-    fn test_records(&self, qs: &[u8], want: Label) -> Result<(), Refusal>
-        ensures { let g = self.now in
-            let code = record_code g.masks.now g.roles g.cs.now qs.now (value_of want) g.form g.s.now g.n in
+    fn test_records(&self, want: Label) -> Result<(), Refusal>
+        ensures { let g = self.now in let o = g.o.now in
+            let code = record_code o.masks o.count o.concepts.now o.query.now (value_of want) g.s.layout g.s.bytes.now g.n in
             refusal_of result ≡ refuse_from code g.n 0 none }
     {
-        let src = sources(self.masks, self.cs);
-        let first = required(qs, want);
-        let later = required(qs, empty());
+        let src = sources(&self.o.masks, self.o.concepts);
+        let first = required(self.o.query, want);
+        let later = required(self.o.query, empty());
         for i in 0..self.n {
             self.test_record(&src, i, need_of(first, later, i))?;
         }
@@ -96,31 +104,24 @@ impl<'a> Graph<'a> {
     }
 }
 
-// Tests 9 to 15 of the graph `s`, whose record 0 is to have `want`; `m` has the masks of so many roles.
-pub fn test_graph(
-    m: &[u16; 49],
-    roles: u8,
-    cs: &[u8],
-    qs: &[u8],
-    want: Label,
-    s: &[u8],
-) -> Result<(), Refusal>
-    ensures { refusal_of result ≡ graph_code m.now roles cs.now qs.now (value_of want) s.now }
+// Tests 9 to 15 of the graph `s`, whose record 0 is to have `want`, for an opened description.
+pub fn test_graph(o: &Opening, want: Label, s: &[u8]) -> Result<(), Refusal>
+    ensures { let d = o.now in refusal_of result ≡ graph_code d.masks d.count d.concepts.now d.query.now (value_of want) s.now }
 {
     let no_graph = Reason::Head.whole();
     let head = read_head(s);
     match head {
         Some(Head::GraphOf(n)) => {
             let graph = Graph {
-                masks: m,
-                roles,
-                cs,
-                s,
+                o,
+                s: Stored {
+                    bytes: s,
+                    layout: layout_of(o.concepts, false),
+                },
                 n,
-                form: layout_of(cs, false),
             };
             graph.test_forms()?;
-            graph.test_records(qs, want)
+            graph.test_records(want)
         },
         Some(Head::RefutationOf(_)) => Err(no_graph),
         None => Err(no_graph),
@@ -128,8 +129,8 @@ pub fn test_graph(
 }
 
 // The same for a plain question, which wants the root.
-pub fn test_sample(m: &[u16; 49], roles: u8, cs: &[u8], qs: &[u8], s: &[u8]) -> Result<(), Refusal>
-    ensures { refusal_of result ≡ graph_code m.now roles cs.now qs.now (root_set qs.now) s.now }
+pub fn test_sample(o: &Opening, s: &[u8]) -> Result<(), Refusal>
+    ensures { let d = o.now in refusal_of result ≡ graph_code d.masks d.count d.concepts.now d.query.now (root_set d.query.now) s.now }
 {
-    test_graph(m, roles, cs, qs, root_set(qs), s)
+    test_graph(o, root_set(o.query), s)
 }

@@ -1,20 +1,22 @@
 -- A description opened: what tests 1 to 8 and 26 refuse, and where they refuse nothing what the checker reads of the role records (02, job 4) and of the fourth part (job 5).
-use Rattle.std.specs.Prelude.{ℕ, ◌≡◌, refl, List, Result, IfOk}
+use Rattle.std.specs.Prelude.{ℕ, ◌≡◌, refl, List}
 use Rattle.std.proofs.Math.Option.{Option, none, some, none-ne-some}
 use Rattle.logic.specs.Refusals.{unless↔}
 use Rattle.tables.specs.Tables.{records_in}
 use Rattle.roles.specs.Ancestors.{role_count}
 use Rattle.roles.specs.Records.{MasksOf}
 use Rattle.answers.specs.Answers.{refusal_of, wholly}
-use Rattle.answers.specs.declared.Refusal.{Refusal}
-use Rattle.directory.specs.Directory.{directory_test, roles_part, concepts_part, query_part, disjoint_part}
+use Rattle.directory.specs.Directory.{directory_test, four, roles_part, concepts_part, query_part, disjoint_part}
 use Rattle.intake.specs.declared.Opening.{Opening}
 use Rattle.intake.specs.Intake.{parts_test, bytes_test}
 
-pub record Opens (d : List ℕ) (r : Result Opening Refusal) : Type 0 where
-  pub tested : refusal_of r ≡ wholly (bytes_test d)
-  pub masks : IfOk r (λ o. MasksOf (roles_part d) (records_in (disjoint_part d)) o.masks)
-  pub count : IfOk r (λ o. o.count ≡ role_count (roles_part d))
+pub record Opens (d : List ℕ) (o : Opening) : Type 0 where
+  pub tested : refusal_of o.tested ≡ wholly (bytes_test d)
+  pub masks : MasksOf (roles_part d) (records_in (disjoint_part d)) o.masks
+  pub count : o.count ≡ role_count (roles_part d)
+  pub concepts : o.concepts.now ≡ concepts_part d
+  pub query : o.query.now ≡ query_part d
+  pub marks : o.marks ≡ four d
 
 -- nothing refuses the description, and so nothing refuses its parts
 pub wholly_none : (o : Option ℕ) → none ≡ wholly o → none ≡ o

@@ -16,7 +16,7 @@ ghost use Rattle.intake.specs.Steps.{later_test, steps_test, role_kept, disjoint
 ghost use Rattle.intake.specs.Opening.{Opens};
 
 use answers::{Reason, Refusal};
-use directory::{concepts_part, directory_ok, disjoint_part, query_part, roles_part};
+use directory::{concepts_part, directory_ok, disjoint_part, has_four, query_part, roles_part};
 use entry_tests::everys::everys_ok;
 use entry_tests::{distinct_ok, simples_ok};
 use labels::MOST_ENTRIES;
@@ -113,7 +113,7 @@ fn disjoints_ok(ps: &[u8], t: &[Role; 16], n: u8) -> bool
     (0..disjoint_count(ps)).all(|i| disjoint_ok(ps, t, n, i))
 }
 
-// Tests 5 to 8 and 26, with the first `n` role records.
+// Tests 5 to 8 and 26, with the first `n` role records: `t` has all 16, as `role_table` promises them.
 fn test_later(p: Parts, t: &[Role; 16], n: u8) -> Result<(), Refusal>
     requires { (length p.concepts.now / 6 ≤ most_entries) × (n ≤ 16) }
     ensures { refusal_of result ≡ wholly (later_test p.entry.concepts.now p.entry.query.now p.entry.disjoint.now t.now (up_to 16 n)) }
@@ -169,24 +169,33 @@ fn test_bytes(d: &[u8], t: &[Role; 16]) -> Result<(), Refusal>
     test_parts(p, t)
 }
 
-// A description that no test refuses, opened: the masks that evidence asks of its roles and records, and the number of roles.
+// A description opened: what tests 1 to 8 and 26 say of it, the masks that evidence asks of its roles and records, the number of roles, the
+// entries and the query, and whether it `marks` barred cells, as one of four parts does. The answer stands beside the values, and not in a
+// Result of them, since `open_description` promises the masks and the number of a refused description too.
 #[derive(Clone, Copy)]
-pub struct Opening {
+pub struct Opening<'a> {
+    pub tested: Result<(), Refusal>,
     pub masks: [u16; 49],
     pub count: u8,
+    pub concepts: &'a [u8],
+    pub query: &'a [u8],
+    pub marks: bool,
 }
 
 // Opens a description by tests 1 to 8 and 26. Every entry point begins with this.
-pub fn open_description(d: &[u8]) -> Result<Opening, Refusal>
+pub fn open_description(d: &[u8]) -> Opening
     ensures { Opens d.now result }
 {
     let rs = roles_part(d);
     let t = role_table(rs);
-    test_bytes(d, &t)?;
-    Ok(Opening {
+    Opening {
+        tested: test_bytes(d, &t),
         masks: role_masks(&t, disjoint_part(d)),
         count: role_count(rs),
-    })
+        concepts: concepts_part(d),
+        query: query_part(d),
+        marks: has_four(d),
+    }
 }
 
 // Tests 1 to 8 and 26 of a description.

@@ -20,7 +20,7 @@ ghost use Rattle.line_reader.specs.Order.{plain_test, line_answer};
 ghost use Rattle.line_reader.specs.Reading.{read_answer};
 
 use answers::{Reading, Reason, Refusal};
-use directory::{concepts_part, query_part, roles_part};
+use directory::roles_part;
 use form::formed_line;
 use intake::open_description;
 use labels::is_wide;
@@ -67,6 +67,7 @@ fn read_line(rs: &[u8], cs: &[u8], qs: &[u8], a: &[u16; 49], s: &[u8]) -> Result
 pub fn read_interpretation(d: &[u8], s: &[u8]) -> Result<Reading, Refusal>
     ensures { of_reading result ≡ read_answer d.now s.now }
 {
-    let o = open_description(d)?;
-    read_line(roles_part(d), concepts_part(d), query_part(d), &o.masks, s)
+    let o = open_description(d);
+    o.tested?;
+    read_line(roles_part(d), o.concepts, o.query, &o.masks, s)
 }

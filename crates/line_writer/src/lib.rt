@@ -16,10 +16,9 @@ ghost use Rattle.line_writer.specs.WriteSteps.{name_in, names_of, element_names,
 use answers::{Reason, Refusal};
 use closing::close_roles;
 use copies::{most_copies, owner_mask};
-use directory::{concepts_part, query_part};
-use evidence::{Layout, layout_of, record_edges, record_label};
+use evidence::{Stored, layout_of};
 use graph_check::test_sample;
-use intake::open_description;
+use intake::{Opening, open_description};
 use labels::{Label, holds, name_bytes};
 use lines::{MOST_ELEMENTS, name_at, put_mask, row_at};
 use parts::{byte, up_to};
@@ -51,7 +50,7 @@ fn name_mask(cs: &[u8], x: Label) -> u64
 {
     let mut out: u64 = 0;
     for e in 0..entry_count(cs) {
-        out = out.put(e, name_in(cs, x, EntryNo(e)));
+        out = out.put(e as usize, name_in(cs, x, EntryNo(e)));
     }
     out
 }
@@ -93,78 +92,77 @@ fn transitive_roles(a: &[u16; 49], roles: u8) -> u16
 {
     let mut out: u16 = 0;
     for r in 0..up_to(16, roles as usize) {
-        out = out.put(r, a[(16 + r) as usize].has(r));
+        out = out.put(r as usize, a[(16 + r) as usize].has(r));
     }
     out
 }
 
-// What a line is written from: the concept entries, the graph with the layout of its labels, and how many elements there are, so many
+// What a line is written from: the concept entries, the graph, and how many elements there are, so many
 // copies of each record.
 #[derive(Clone, Copy)]
 struct Plan<'a> {
     concepts: &'a [u8],
-    graph: &'a [u8],
-    layout: Layout,
+    graph: Stored<'a>,
     size: u8,
     copies: u8,
     ghost some: { 1 ≤ copies },
-    ghost width: { layout.wide ≡ wide (length concepts.now / 6) },
+    ghost width: { graph.layout.wide ≡ wide (length concepts.now / 6) },
 }
 
 impl Plan<'_> {
     // The name entries of element `z`.
     fn names(&self, z: u8) -> u64
-        ensures { (result ≡ element_names self.now.concepts.now self.now.layout self.now.graph.now self.now.copies z)
-            × (result < 2 ^ (8 * name_bytes self.now.layout.wide)) }
+        ensures { (result ≡ element_names self.now.concepts.now self.now.graph.layout self.now.graph.bytes.now self.now.copies z)
+            × (result < 2 ^ (8 * name_bytes self.now.graph.layout.wide)) }
     {
         name_mask(
             self.concepts,
-            record_label(self.graph, z / self.copies, self.layout),
+            self.graph.label(z / self.copies),
         )
     }
 
     // Where the role masks begin.
     fn rows(&self) -> usize
-        ensures { (result ≡ rows_at self.now.layout self.now.size) × (result ≤ 65536) }
+        ensures { (result ≡ rows_at self.now.graph.layout self.now.size) × (result ≤ 65536) }
     {
-        name_at(self.size, self.layout.wide)
+        name_at(self.size, self.graph.layout.wide)
     }
 
     // The length of the line.
     fn len(&self) -> usize
-        ensures { result ≡ line_length (name_bytes self.now.layout.wide) self.now.size }
+        ensures { result ≡ line_length (name_bytes self.now.graph.layout.wide) self.now.size }
     {
         row_at(self.rows(), self.size, self.size)
     }
 
     // The name masks.
     fn lay_names(&self, buf: &mut [u8])
-        requires { rows_at self.now.layout self.now.size ≤ length buf.old }
-        ensures { Names self.now.layout.wide 1 (element_names self.now.concepts.now self.now.layout self.now.graph.now self.now.copies)
+        requires { rows_at self.now.graph.layout self.now.size ≤ length buf.old }
+        ensures { Names self.now.graph.layout.wide 1 (element_names self.now.concepts.now self.now.graph.layout self.now.graph.bytes.now self.now.copies)
             buf.old self.now.size buf.new }
     {
         for z in 0..self.size {
             let m = self.names(z);
-            put_names(buf, name_at(z, self.layout.wide), m, self.layout.wide);
+            put_names(buf, name_at(z, self.graph.layout.wide), m, self.graph.layout.wide);
         }
     }
 
     // The rows of the direct pairs, the first at `at`.
     fn lay_rows(&self, buf: &mut [u8], at: usize)
         requires { at + 2 * (self.now.size * self.now.size) ≤ length buf.old }
-        ensures { Masks at (direct_masks self.now.layout self.now.graph.now self.now.copies self.now.size)
+        ensures { Masks at (direct_masks self.now.graph.layout self.now.graph.bytes.now self.now.copies self.now.size)
             buf.old (self.now.size * self.now.size) buf.new }
     {
         for x in 0..self.size {
-            let es = record_edges(self.graph, x / self.copies, self.layout);
+            let es = self.graph.rest(x / self.copies);
             lay_row(buf, row_at(at, self.size, x), es, self.size, self.copies);
         }
     }
 
     // The line, with the transitive roles `t` and the masks `a` of the roles.
     fn lay_line(&self, buf: &mut [u8], t: u16, a: &[u16; 49])
-        requires { line_length (name_bytes self.now.layout.wide) self.now.size ≤ length buf.old }
-        ensures { LaidLine t self.now.concepts.now self.now.layout self.now.graph.now a.now self.now.copies self.now.size buf.old buf.new }
+        requires { line_length (name_bytes self.now.graph.layout.wide) self.now.size ≤ length buf.old }
+        ensures { LaidLine t self.now.concepts.now self.now.graph.layout self.now.graph.bytes.now a.now self.now.copies self.now.size buf.old buf.new }
     {
         let at = self.rows();
         buf[0] = self.size;
@@ -182,22 +180,25 @@ fn element_count(n: u8, k: usize) -> usize
     (n as usize) * k
 }
 
-// 21, 22, and then the line, for a graph that keeps the rules, with the transitive roles `t` and the masks `a` of the roles.
-fn write_kept(buf: &mut [u8], t: u16, a: &[u16; 49], cs: &[u8], s: &[u8]) -> Result<usize, Refusal>
+// 21, 22, and then the line, for a graph that keeps the rules of the opened description.
+fn write_kept(buf: &mut [u8], o: &Opening, s: &[u8]) -> Result<usize, Refusal>
     requires { 1 ≤ record_count s.now }
-    ensures { ToldOf t cs.now s.now a.now buf.old buf.new result }
+    ensures { let d = o.now in ToldOf (transitives_in d.masks d.count) d.concepts.now s.now d.masks buf.old buf.new result }
 {
-    let f = layout_of(cs, false);
+    let graph = Stored {
+        bytes: s,
+        layout: layout_of(o.concepts, false),
+    };
+    // Behind `test_sample` byte 1 is the number of records.
     let n = byte(s, 1);
-    let k = most_copies(s, n, f);
+    let k = most_copies(&graph, n);
     let size = element_count(n, k);
     if MOST_ELEMENTS < size {
         return Err(Reason::Big.whole());
     }
     let p = Plan {
-        concepts: cs,
-        graph: s,
-        layout: f,
+        concepts: o.concepts,
+        graph,
         size: size as u8,
         copies: k as u8,
     };
@@ -205,23 +206,16 @@ fn write_kept(buf: &mut [u8], t: u16, a: &[u16; 49], cs: &[u8], s: &[u8]) -> Res
     if buf.len() < len {
         return Err(Reason::Short.whole());
     }
-    p.lay_line(buf, t, a);
+    p.lay_line(buf, transitive_roles(&o.masks, o.count), &o.masks);
     Ok(len)
 }
 
-// Tests 9 to 15 of the graph, then the line, by the masks of so many roles.
-fn write_opened(
-    buf: &mut [u8],
-    a: &[u16; 49],
-    roles: u8,
-    cs: &[u8],
-    qs: &[u8],
-    s: &[u8],
-) -> Result<usize, Refusal>
-    ensures { OpenedTold a.now roles cs.now qs.now s.now buf.old buf.new result }
+// Tests 9 to 15 of the graph, then the line.
+fn write_opened(buf: &mut [u8], o: &Opening, s: &[u8]) -> Result<usize, Refusal>
+    ensures { let d = o.now in OpenedTold d.masks d.count d.concepts.now d.query.now s.now buf.old buf.new result }
 {
-    test_sample(a, roles, cs, qs, s)?;
-    write_kept(buf, transitive_roles(a, roles), a, cs, s)
+    test_sample(o, s)?;
+    write_kept(buf, o, s)
 }
 
 // Writes the line of the graph `s` into the buffer: the bytes of the line, and then the old bytes. On a refusal no byte is written.
@@ -230,6 +224,7 @@ pub fn write_interpretation(d: &[u8], s: &[u8], buf: &mut [u8]) -> Result<usize,
     ensures size { length_of result ≡ write_length d.now s.now (length buf.old) }
     ensures bytes { buf.new ≡ buffer_after d.now s.now buf.old }
 {
-    let o = open_description(d)?;
-    write_opened(buf, &o.masks, o.count, concepts_part(d), query_part(d), s)
+    let o = open_description(d);
+    o.tested?;
+    write_opened(buf, &o, s)
 }

@@ -1,18 +1,19 @@
 -- What the cells have of the arrays, once these are filled, is the known label of test 18.
 use Prim.Native.Nat.{ℕ, ◌+◌, ◌≤◌, ◌<◌}
 use Rattle.std.specs.Prelude.{◌≡◌, refl, ◌↔◌, true, false, ◌&&◌, ◌||◌, List, ltb, length}
-use Rattle.std.proofs.Common.{sym, ◌∙◌, ap₂, inl, inr, arith}
+use Rattle.std.proofs.Common.{sym, ◌∙◌, ap₂, inl, inr, arith, lt-ltb}
 use Rattle.std.proofs.Math.Path.{ap, subst}
 use Rattle.std.proofs.Math.Bool.{Bool}
 use Rattle.std.proofs.Math.Option.{none}
 use Rattle.std.proofs.Math.Dec.{eqb}
+use Rattle.std.proofs.Math.Decide.{dec_le}
 use Rattle.logic.specs.Tests.{So, ◌⇒◌, decide, so_and, and_l, and_r, or_l, or_r, or_cases, so_ltb, ltb_so, so_false, same_test}
 use Rattle.logic.specs.Bounded.{any_below, any_elim, any_intro, any_cong}
 use Rattle.logic.specs.Lists.{length_tabulate, at_tabulate}
 use Rattle.logic.specs.Sums.{only}
 use Rattle.logic.specs.Sets.{has}
 use Rattle.logic.specs.SetLaws.{no_member, has_lt, single↔, set_of↔, set_of_cong}
-use Rattle.parts.specs.Numbers.{byte_at}
+use Rattle.parts.specs.Numbers.{byte_at, up_to, up_to_all, up_to_most}
 use Rattle.labels.specs.declared.Label.{Label}
 use Rattle.description.specs.Literals.{opposite, code}
 use Rattle.description.specs.Descriptions.{entry_of_fields}
@@ -27,9 +28,19 @@ use Rattle.rows.specs.declared.Row as Held
 use Rattle.rows.specs.HeldRows.{given, held_at, rows_held}
 use Rattle.cell_labels.specs.CellShows.{room, every_shows, carried_at}
 use Rattle.cell_labels.specs.CellLaws.{is_every↔}
-use Rattle.cell_labels.specs.CellRows.{mask_at, label_at, Masks, Labels, above_of, bit_of, shows_own, shown_by, denied_by, gives, gathered_by}
+use Rattle.cell_labels.specs.CellRows.{SixOf, mask_at, label_at, Masks, Labels, above_of, bit_of, shows_own, shown_by, denied_by, gives, gathered_by}
 use Rattle.list_cells.specs.CellSteps.{row_role, role_of, row_shows, known_in, answer_with, cell_fine}
 use Rattle.list_cells.specs.CellAnswers.{gathered, gathered_on}
+
+-- six elements have no more than six rows, however many are told
+few_told : (k n i : ℕ) → n ≡ up_to 6 k → i < 6 → ltb i k ≡ ltb i n
+few_told k n i e l = elim (dec_le k 6) [
+  | yes h ↦ (let z : n ≡ k = e ∙ up_to_all 6 k h in rw z refl)
+  | no h ↦ (let z : n ≡ 6 = e ∙ sym (up_to_most 6 k (omega arith)) in let g : i < k = omega arith in rw (z, lt-ltb i k g, lt-ltb i 6 l) refl)
+]
+
+pub six_few : {A : Type 0} {v : A → ℕ} {d : A} {f : ℕ → ℕ} (k n : ℕ) (out : List A) → n ≡ up_to 6 k → SixOf v d f k out → SixOf v d f n out
+six_few {A} {v} {d} {f} k n out e s = record { size = s.size; at = λ i l. s.at i l ∙ ap (λ b. only b (f i)) (few_told k n i e l) }
 
 -- a test of some row that is held
 any_held : (rows : List Held.Row) (k : ℕ) (p : ℕ → Row → Bool)

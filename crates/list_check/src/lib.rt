@@ -15,36 +15,34 @@ ghost use Rattle.list_check.specs.CheckSteps.{form_code, form_of, count_code, st
 
 use answers::{Reason, Refusal};
 use cites::within_one;
-use evidence::{Head, Layout, layout_of, read_head, record_edges, record_label};
+use evidence::{Head, Stored, layout_of, read_head};
+use intake::Opening;
 use labels::Label;
-use list_cells::cells_ok;
+use list_cells::CellTest;
 use list_form::step_form;
-use list_steps::test_step;
+use list_steps::Record;
 use list_tree::tree_closes;
 use parts::byte;
-use rows::{Row, rows_of};
+use rows::{Rows, rows_of};
 
-// A list as it is tested: its bytes and how its records are stored, with the masks of the roles, the entries and the query.
+// A list as it is tested, with the opened description.
 #[derive(Clone, Copy)]
 struct List<'a> {
-    s: &'a [u8],
-    f: Layout,
-    m: &'a [u16; 49],
-    cs: &'a [u8],
-    qs: &'a [u8],
+    s: Stored<'a>,
+    o: &'a Opening<'a>,
 }
 
 impl<'a> List<'a> {
     // Test 10 of record `i`.
     fn form_ok(&self, i: u8) -> bool
-        ensures { result ≡ form_code self.now.f.marks (edges_part self.now.f self.now.s.now) i }
+        ensures { result ≡ form_code self.now.s.layout.marks (edges_part self.now.s.layout self.now.s.bytes.now) i }
     {
-        step_form(record_edges(self.s, i, self.f))
+        step_form(self.s.rest(i))
     }
 
     // Test 10 of the `n` records.
     fn test_forms(&self, n: u8) -> Result<(), Refusal>
-        ensures { refusal_of result ≡ refuse_from (form_of self.now.f.marks (edges_part self.now.f self.now.s.now)) n 0 none }
+        ensures { refusal_of result ≡ refuse_from (form_of self.now.s.layout.marks (edges_part self.now.s.layout self.now.s.bytes.now)) n 0 none }
     {
         for i in 0..n {
             if !self.form_ok(i) {
@@ -54,36 +52,50 @@ impl<'a> List<'a> {
         Ok(())
     }
 
-    // Tests 18 and 19 of the counting step `ds` of record `i` with the label `x`, whose `k` rows are `rows`.
-    fn test_held(&self, i: u8, x: Label, ds: &[u8], k: u8, rows: [Row; 6]) -> Result<(), Refusal>
-        requires { (k ≤ 6) × (rows_held rows k ≡ rows_of (without_roles self.now.cs.now []) (bytes_at literal ds.now 2 k)) }
-        ensures { refusal_of result ≡ refuse i (count_code self.now.f.marks self.now.m.now self.now.cs.now
-            (label_of self.now.f self.now.s.now) (value_of x) ds.now k) none }
+    // Tests 18 and 19 of the counting step `ds` of record `i` with the label `x`, which has these rows.
+    fn test_held(&self, i: u8, x: Label, ds: &[u8], rows: &Rows) -> Result<(), Refusal>
+        requires { (rows.now.count ≤ 6) × (rows_held rows.now.held rows.now.count
+            ≡ rows_of (without_roles self.now.o.now.concepts.now []) (bytes_at literal ds.now 2 rows.now.count)) }
+        ensures { refusal_of result ≡ refuse i (count_code self.now.s.layout.marks self.now.o.now.masks self.now.o.now.concepts.now
+            (label_of self.now.s.layout self.now.s.bytes.now) (value_of x) ds.now rows.now.count) none }
     {
-        if !cells_ok(self.cs, self.m, self.s, x, rows, k, ds, self.f) {
+        let cells = CellTest {
+            x,
+            s: self.s,
+            m: &self.o.masks,
+            cs: self.o.concepts,
+        };
+        if !cells.cells_ok(rows, ds) {
             return Err(Reason::Cell.at(i));
         }
-        if !tree_closes(rows, k, ds) {
+        if !tree_closes(rows, ds) {
             return Err(Reason::Tree.at(i));
         }
         Ok(())
     }
 
-    // The same with the rows read.
+    // The same with the `k` rows read.
     fn test_count(&self, i: u8, x: Label, ds: &[u8], k: u8) -> Result<(), Refusal>
         requires { k ≤ 6 }
-        ensures { refusal_of result ≡ refuse i (count_code self.now.f.marks self.now.m.now self.now.cs.now
-            (label_of self.now.f self.now.s.now) (value_of x) ds.now k) none }
+        ensures { refusal_of result ≡ refuse i (count_code self.now.s.layout.marks self.now.o.now.masks self.now.o.now.concepts.now
+            (label_of self.now.s.layout self.now.s.bytes.now) (value_of x) ds.now k) none }
     {
-        self.test_held(i, x, ds, k, rows_of(self.cs, ds, k))
+        let rows = rows_of(self.o.concepts, ds, k);
+        self.test_held(i, x, ds, &rows)
     }
 
     // Tests 10 and 16 to 19 of record `i` with the label `x` and the step `ds`.
     fn test_labelled(&self, i: u8, x: Label, ds: &[u8]) -> Result<(), Refusal>
-        ensures { refusal_of result ≡ refuse i (step_code self.now.f.marks self.now.m.now self.now.cs.now self.now.qs.now
-            (label_of self.now.f self.now.s.now) i (value_of x) ds.now) none }
+        ensures { refusal_of result ≡ refuse i (step_code self.now.s.layout.marks self.now.o.now.masks self.now.o.now.concepts.now self.now.o.now.query.now
+            (label_of self.now.s.layout self.now.s.bytes.now) i (value_of x) ds.now) none }
     {
-        test_step(self.cs, self.qs, self.s, i, x, ds, self.f)?;
+        let record = Record {
+            i,
+            x,
+            s: self.s,
+            cs: self.o.concepts,
+        };
+        record.test_step(self.o.query, ds)?;
         if byte(ds, 0) == 6 {
             return self.test_count(i, x, ds, byte(ds, 1));
         }
@@ -92,17 +104,17 @@ impl<'a> List<'a> {
 
     // Tests 10 and 16 to 19 of record `i`.
     fn test_record(&self, i: u8) -> Result<(), Refusal>
-        ensures { refusal_of result ≡ refuse i (record_code self.now.f.marks self.now.m.now self.now.cs.now self.now.qs.now
-            (label_of self.now.f self.now.s.now) (edges_part self.now.f self.now.s.now) i) none }
+        ensures { refusal_of result ≡ refuse i (record_code self.now.s.layout.marks self.now.o.now.masks self.now.o.now.concepts.now self.now.o.now.query.now
+            (label_of self.now.s.layout self.now.s.bytes.now) (edges_part self.now.s.layout self.now.s.bytes.now) i) none }
     {
-        let x = record_label(self.s, i, self.f);
-        self.test_labelled(i, x, record_edges(self.s, i, self.f))
+        let x = self.s.label(i);
+        self.test_labelled(i, x, self.s.rest(i))
     }
 
     // Tests 10 and 16 to 19 of the `n` records, rising.
     fn test_records(&self, n: u8) -> Result<(), Refusal>
-        ensures { refusal_of result ≡ refuse_from (record_code self.now.f.marks self.now.m.now self.now.cs.now self.now.qs.now
-            (label_of self.now.f self.now.s.now) (edges_part self.now.f self.now.s.now)) n 0 none }
+        ensures { refusal_of result ≡ refuse_from (record_code self.now.s.layout.marks self.now.o.now.masks self.now.o.now.concepts.now self.now.o.now.query.now
+            (label_of self.now.s.layout self.now.s.bytes.now) (edges_part self.now.s.layout self.now.s.bytes.now)) n 0 none }
     {
         for i in 0..n {
             self.test_record(i)?;
@@ -112,9 +124,9 @@ impl<'a> List<'a> {
 
     // Test 20: the label of record `last` holds nothing but literal 0 and what is wanted.
     fn test_end(&self, want: Label, last: u8) -> Result<(), Refusal>
-        ensures { refusal_of result ≡ refuse last (end_code (value_of want) (label_of self.now.f self.now.s.now) last) none }
+        ensures { refusal_of result ≡ refuse last (end_code (value_of want) (label_of self.now.s.layout self.now.s.bytes.now) last) none }
     {
-        if !within_one(self.s, last, want, 0, self.f) {
+        if !within_one(&self.s, last, want, 0) {
             return Err(Reason::End.at(last));
         }
         Ok(())
@@ -123,8 +135,8 @@ impl<'a> List<'a> {
     // Tests 10 and 16 to 20 of the `n` records.
     fn test_all(&self, want: Label, n: u8) -> Result<(), Refusal>
         requires { 1 ≤ n }
-        ensures { refusal_of result ≡ records_code self.now.f.marks self.now.m.now self.now.cs.now self.now.qs.now (value_of want)
-            (label_of self.now.f self.now.s.now) (edges_part self.now.f self.now.s.now) n }
+        ensures { refusal_of result ≡ records_code self.now.s.layout.marks self.now.o.now.masks self.now.o.now.concepts.now self.now.o.now.query.now (value_of want)
+            (label_of self.now.s.layout self.now.s.bytes.now) (edges_part self.now.s.layout self.now.s.bytes.now) n }
     {
         self.test_forms(n)?;
         self.test_records(n)?;
@@ -132,20 +144,17 @@ impl<'a> List<'a> {
     }
 }
 
-// Tests 9, 10 and 16 to 20 of the list `s`, which is to end within literal 0 and `want`, with the masks of the roles. With four pairs it
-// `marks` barred cells.
-pub fn test_list(
-    m: &[u16; 49],
-    cs: &[u8],
-    qs: &[u8],
-    want: Label,
-    s: &[u8],
-    marks: bool,
-) -> Result<(), Refusal>
-    ensures { refusal_of result ≡ list_code marks m.now cs.now qs.now (value_of want) s.now }
+// Tests 9, 10 and 16 to 20 of the list `s`, which is to end within literal 0 and `want`, for an opened description.
+pub fn test_list(o: &Opening, want: Label, s: &[u8]) -> Result<(), Refusal>
+    ensures { let d = o.now in refusal_of result ≡ list_code d.marks d.masks d.concepts.now d.query.now (value_of want) s.now }
 {
-    let f = layout_of(cs, marks);
-    let list = List { s, f, m, cs, qs };
+    let list = List {
+        s: Stored {
+            bytes: s,
+            layout: layout_of(o.concepts, o.marks),
+        },
+        o,
+    };
     let off = Reason::Head.whole();
     match read_head(s) {
         Some(Head::RefutationOf(n)) => list.test_all(want, n),

@@ -11,16 +11,30 @@ ghost use Rattle.list_leaf.specs.Leaf.{open_byte, open_cell, few_enough, marked,
 ghost use Rattle.list_leaf.specs.Weights.{packed, RowParts, SplitSums, eight_of, unfair_at, unfair_block};
 ghost use Rattle.list_leaf.specs.Totals.{Priced, Totals};
 
-use rows::cell_count;
+use rows::{Row, cell_count};
 use std::array;
 use tables::Side;
 
-// A limit on the way to a leaf: a row, or a half of a split of `cell`. The bound stands first, so that a limit has four bytes: each level of a tree holds 14.
+// A limit on the way to a leaf: a row, or a half of a split of `cell`. The bound stands first, so that a limit has four bytes: each level
+// of a tree holds 14.
 #[derive(Clone, Copy)]
 pub struct Limit {
     pub bound: u16,
     pub side: Side,
     pub cell: u8,
+}
+
+// The limit that a row is; it names no cell.
+impl From<Row> for Limit {
+    ghost from_gives = { λ row x. x ≡ record { side = row.side; bound = row.bound; cell = 0 } };
+
+    fn from(row: Row) -> Limit {
+        Limit {
+            bound: row.bound,
+            side: row.side,
+            cell: 0,
+        }
+    }
 }
 
 // A leaf's gap: what the lower total has more than the upper, or less.
@@ -54,9 +68,9 @@ fn part(x: Limit, m: u8) -> u32
 }
 
 // The parts of the `k` rows; behind them 0.
-fn row_parts(way: [Limit; 14], k: usize, ms: &[u8]) -> [u32; 6]
+fn row_parts(way: &[Limit; 14], k: usize, ms: &[u8]) -> [u32; 6]
     requires { (k ≤ 6) × (k ≤ length ms.now) }
-    ensures { RowParts way ms.now k result }
+    ensures { RowParts way.now ms.now k result }
 {
     array::from_fn(|i| if i < k { part(way[i], ms[i]) } else { 0 })
 }
@@ -69,9 +83,9 @@ fn place(cell: u8) -> usize
 }
 
 // The parts of the splits, behind the `k` rows, added up at each cell; cell 0 has none.
-fn split_sums(way: [Limit; 14], k: usize, ms: &[u8]) -> [u32; 64]
+fn split_sums(way: &[Limit; 14], k: usize, ms: &[u8]) -> [u32; 64]
     requires { (k ≤ length ms.now) × (length ms.now ≤ 14) }
-    ensures { SplitSums way ms.now k (length ms.now) result × (get_or result 0 0 ≡ 0) }
+    ensures { SplitSums way.now ms.now k (length ms.now) result × (get_or result 0 0 ≡ 0) }
 {
     let mut sums: [u32; 64] = [0; 64];
     for i in k..ms.len() {
@@ -101,7 +115,8 @@ fn unfair(sum: u32, mark: bool) -> bool
 // Whether one of the eight cells from `at` is marked and weighs more on the lower side; `low` has the sums of its first
 // three rows, `high` that of the others.
 fn block_unfair(low: [u32; 8], high: u32, sums: [u32; 64], marks: &[bool; 64], at: usize) -> bool
-    requires { (at ≤ 56) × (high ≤ 50135040) × ((i : ℕ) → i < 8 → get_or low i 0 ≤ 50135040) × ((c : ℕ) → c < 64 → get_or sums c 0 ≤ 233963520) }
+    requires { (at ≤ 56) × (high ≤ 50135040) × ((i : ℕ) → i < 8 → get_or low i 0 ≤ 50135040)
+        × ((c : ℕ) → c < 64 → get_or sums c 0 ≤ 233963520) }
     ensures { result ≡ any_below 8 (unfair_at low high sums marks.now at) }
 {
     // No chain: without an early end the compiler takes all eight cells at once.
@@ -138,9 +153,9 @@ fn price_of(x: Limit, m: u8) -> u64
 }
 
 // The two totals, the lower above 32 bits and the upper below them.
-fn totals(way: [Limit; 14], ms: &[u8]) -> u64
+fn totals(way: &[Limit; 14], ms: &[u8]) -> u64
     requires { length ms.now ≤ 14 }
-    ensures { Totals way ms.now (length ms.now) result }
+    ensures { Totals way.now ms.now (length ms.now) result }
 {
     let mut sum: u64 = 0;
     for i in 0..ms.len() {
@@ -150,9 +165,9 @@ fn totals(way: [Limit; 14], ms: &[u8]) -> u64
 }
 
 // The test of a leaf with a multiplier for each limit: the balance of the marked cells, and the gap.
-fn leaf_test(way: [Limit; 14], k: usize, marks: &[bool; 64], ms: &[u8]) -> bool
+fn leaf_test(way: &[Limit; 14], k: usize, marks: &[bool; 64], ms: &[u8]) -> bool
     requires { (k ≤ 6) × (k ≤ length ms.now) × (length ms.now ≤ 14) }
-    ensures { result ≡ leaf_over k marks.now way ms.now }
+    ensures { result ≡ leaf_over k marks.now way.now ms.now }
 {
     let ps = row_parts(way, k, ms);
     let sums = split_sums(way, k, ms);
@@ -163,8 +178,8 @@ fn leaf_test(way: [Limit; 14], k: usize, marks: &[bool; 64], ms: &[u8]) -> bool
 
 // Whether the leaf with the multipliers `ms` closes over the marked cells. On its way stand as many limits: `k` rows, then
 // the halves of the splits passed.
-pub fn leaf_closes(way: [Limit; 14], k: u8, marks: &[bool; 64], ms: &[u8]) -> bool
-    ensures { result ≡ (few_enough k (length ms.now) && leaf_over k marks.now way ms.now) }
+pub fn leaf_closes(way: &[Limit; 14], k: u8, marks: &[bool; 64], ms: &[u8]) -> bool
+    ensures { result ≡ (few_enough k (length ms.now) && leaf_over k marks.now way.now ms.now) }
 {
     let rows = k as usize;
     let few = (rows <= 6) & ((rows <= ms.len()) & (ms.len() <= 14));

@@ -4,7 +4,7 @@
 ghost use Rattle.std.specs.Prelude.{◌≡◌, [], true, ◌&&◌, ◌*◌, ◌/◌, ◌-◌, ltb, length};
 ghost use Rattle.std.proofs.Math.Option.{none};
 ghost use Rattle.logic.specs.Refusals.{unless, refuse};
-ghost use Rattle.logic.specs.Sets.{within};
+ghost use Rattle.logic.specs.Sets.{within, narrow};
 ghost use Rattle.description.specs.Literals.{literal, members, adding, opposite};
 ghost use Rattle.description.specs.Descriptions.{entry_of_fields, is_both};
 ghost use Rattle.tables.specs.Tables.{fields_at};
@@ -21,7 +21,7 @@ ghost use Rattle.list_steps.specs.StepSteps.{step_refusal, step_named};
 
 use answers::{Reason, Refusal};
 use cites::{look_up, within_case, within_one, within_two};
-use evidence::Layout;
+use evidence::Stored;
 use labels::{Label, MOST_ENTRIES, below, holds};
 use list_form::step_form;
 use list_rows::test_rows;
@@ -50,14 +50,20 @@ fn in_label(x: Label, l: u8) -> bool
     held | (l == 0)
 }
 
+// Whether the label has literals of the table alone.
+fn in_table(x: Label, cs: &[u8]) -> bool
+    ensures { result ≡ narrow (value_of x) (2 * (length cs.now / 6)) }
+{
+    below(x, 2 * entry_count(cs))
+}
+
 // A record whose step is tested: its number and its label, the evidence that it cites, how that is stored, and the entries.
 #[derive(Clone, Copy)]
-struct Record<'a> {
-    i: u8,
-    x: Label,
-    s: &'a [u8],
-    f: Layout,
-    cs: &'a [u8],
+pub struct Record<'a> {
+    pub i: u8,
+    pub x: Label,
+    pub s: Stored<'a>,
+    pub cs: &'a [u8],
 }
 
 impl<'a> Record<'a> {
@@ -105,11 +111,11 @@ impl<'a> Record<'a> {
 
     // Whether entry `e` is a "both" and the label of record `c` lies within its own with the two literals.
     fn both_within(&self, e: EntryNo, c: u8) -> bool
-        ensures { result ≡ is_both (λ a b. within (label_of self.now.f self.now.s.now c) (adding (adding (value_of self.now.x) a) b))
+        ensures { result ≡ is_both (λ a b. within (label_of self.now.s.layout self.now.s.bytes.now c) (adding (adding (value_of self.now.x) a) b))
             (entry_of_fields (fields_at self.now.cs.now e.0)) }
     {
         match concept_at(self.cs, e) {
-            Concept::Both(a, b) => within_two(self.s, c, self.x, a, b, self.f),
+            Concept::Both(a, b) => within_two(&self.s, c, self.x, a, b),
             Concept::Top => false,
             Concept::Name => false,
             Concept::Every(_, _) => false,
@@ -120,7 +126,7 @@ impl<'a> Record<'a> {
     // Step 2, by the "both" `e` of the label.
     fn step_2(&self, e: EntryNo, c: u8) -> Result<(), Refusal>
         ensures { refusal_of result ≡ refuse self.now.i (named_refusal (without_roles self.now.cs.now [])
-            (label_of self.now.f self.now.s.now) self.now.i (value_of self.now.x) (conjunction e.0 c)) none }
+            (label_of self.now.s.layout self.now.s.bytes.now) self.now.i (value_of self.now.x) (conjunction e.0 c)) none }
     {
         self.cites(self.entry_in(e), c, c)?;
         self.passes(
@@ -131,14 +137,14 @@ impl<'a> Record<'a> {
 
     // Whether entry `e` is a "both" and the labels of records `c` and `d` lie within its own with the opposite of the first literal, of the second.
     fn sides_within(&self, e: EntryNo, c: u8, d: u8) -> bool
-        ensures { result ≡ is_both (λ a b. within (label_of self.now.f self.now.s.now c) (adding (value_of self.now.x) (opposite a))
-            && within (label_of self.now.f self.now.s.now d) (adding (value_of self.now.x) (opposite b)))
+        ensures { result ≡ is_both (λ a b. within (label_of self.now.s.layout self.now.s.bytes.now c) (adding (value_of self.now.x) (opposite a))
+            && within (label_of self.now.s.layout self.now.s.bytes.now d) (adding (value_of self.now.x) (opposite b)))
             (entry_of_fields (fields_at self.now.cs.now e.0)) }
     {
         match concept_at(self.cs, e) {
             Concept::Both(a, b) => {
-                let first = within_one(self.s, c, self.x, opposite(a), self.f);
-                first & within_one(self.s, d, self.x, opposite(b), self.f)
+                let first = within_one(&self.s, c, self.x, opposite(a));
+                first & within_one(&self.s, d, self.x, opposite(b))
             }
             Concept::Top => false,
             Concept::Name => false,
@@ -150,7 +156,7 @@ impl<'a> Record<'a> {
     // Step 3, by the "both" `e` that the label denies.
     fn step_3(&self, e: EntryNo, c: u8, d: u8) -> Result<(), Refusal>
         ensures { refusal_of result ≡ refuse self.now.i (named_refusal (without_roles self.now.cs.now [])
-            (label_of self.now.f self.now.s.now) self.now.i (value_of self.now.x) (disjunction e.0 c d)) none }
+            (label_of self.now.s.layout self.now.s.bytes.now) self.now.i (value_of self.now.x) (disjunction e.0 c d)) none }
     {
         self.cites(self.entry_in(e), c, d)?;
         self.passes(
@@ -162,12 +168,12 @@ impl<'a> Record<'a> {
     // Step 4, by rule `q` of the query.
     fn step_4(&self, qs: &[u8], q: u8, c: u8) -> Result<(), Refusal>
         ensures { refusal_of result ≡ refuse self.now.i (named_refusal (without_roles self.now.cs.now qs.now)
-            (label_of self.now.f self.now.s.now) self.now.i (value_of self.now.x) (by_rule q c)) none }
+            (label_of self.now.s.layout self.now.s.bytes.now) self.now.i (value_of self.now.x) (by_rule q c)) none }
     {
         let n = (q as usize) + 1;
         self.cites(n < qs.len(), c, c)?;
         self.passes(
-            within_one(self.s, c, self.x, byte(qs, n), self.f),
+            within_one(&self.s, c, self.x, byte(qs, n)),
             Reason::Step,
         )
     }
@@ -175,21 +181,21 @@ impl<'a> Record<'a> {
     // Step 5, by both cases of entry `e`.
     fn step_5(&self, e: EntryNo, c: u8, d: u8) -> Result<(), Refusal>
         ensures { refusal_of result ≡ refuse self.now.i (named_refusal (without_roles self.now.cs.now [])
-            (label_of self.now.f self.now.s.now) self.now.i (value_of self.now.x) (case_split e.0 c d)) none }
+            (label_of self.now.s.layout self.now.s.bytes.now) self.now.i (value_of self.now.x) (case_split e.0 c d)) none }
     {
         self.cites(self.entry_in(e), c, d)?;
-        let held = within_case(self.s, c, self.x, e, false, self.f);
+        let held = within_case(&self.s, c, self.x, e, false);
         self.passes(
-            held & within_case(self.s, d, self.x, e, true, self.f),
+            held & within_case(&self.s, d, self.x, e, true),
             Reason::Step,
         )
     }
 
     // 16 and 17 of the step `ds`, whose form was tested.
     fn test_named(&self, qs: &[u8], ds: &[u8]) -> Result<(), Refusal>
-        requires { formed (step_in self.now.f.marks ds.now) ≡ true }
+        requires { formed (step_in self.now.s.layout.marks ds.now) ≡ true }
         ensures { refusal_of result ≡ refuse self.now.i (step_named (without_roles self.now.cs.now qs.now)
-            (label_of self.now.f self.now.s.now) self.now.i (value_of self.now.x) (step_in self.now.f.marks ds.now)) none }
+            (label_of self.now.s.layout self.now.s.bytes.now) self.now.i (value_of self.now.x) (step_in self.now.s.layout.marks ds.now)) none }
     {
         let step = byte(ds, 0);
         let a = byte(ds, 1);
@@ -201,26 +207,17 @@ impl<'a> Record<'a> {
             3 => self.step_3(EntryNo(a), b, c),
             4 => self.step_4(qs, a, b),
             5 => self.step_5(EntryNo(a), b, c),
-            _ => test_rows(self.cs, self.i, self.x, ds, a, self.f.marks),
+            _ => test_rows(self.cs, self.i, self.x, ds, a, self.s.layout.marks),
         }
     }
-}
 
-// 10, 16 and 17 of record `i` with the label `x` and the step `ds`.
-pub fn test_step(
-    cs: &[u8],
-    qs: &[u8],
-    s: &[u8],
-    i: u8,
-    x: Label,
-    ds: &[u8],
-    f: Layout,
-) -> Result<(), Refusal>
-    ensures { refusal_of result ≡ refuse i (step_refusal (without_roles cs.now qs.now) (label_of f s.now) i
-        (value_of x) (step_in f.marks ds.now)) none }
-{
-    let record = Record { i, x, s, f, cs };
-    record.passes(step_form(ds), Reason::Form)?;
-    record.passes(below(x, 2 * entry_count(cs)), Reason::Cite)?;
-    record.test_named(qs, ds)
+    // 10, 16 and 17 of the step `ds`.
+    pub fn test_step(&self, qs: &[u8], ds: &[u8]) -> Result<(), Refusal>
+        ensures { refusal_of result ≡ refuse self.now.i (step_refusal (without_roles self.now.cs.now qs.now)
+            (label_of self.now.s.layout self.now.s.bytes.now) self.now.i (value_of self.now.x) (step_in self.now.s.layout.marks ds.now)) none }
+    {
+        self.passes(step_form(ds), Reason::Form)?;
+        self.passes(in_table(self.x, self.cs), Reason::Cite)?;
+        self.test_named(qs, ds)
+    }
 }

@@ -1,7 +1,7 @@
 // The tree of a counting step: test 19.
 #![tactic(auto)]
 
-ghost use Rattle.std.specs.Prelude.{Some, ◌≡◌, ◌&&◌, ◌+◌, ◌≤◌, ◌<◌, ltb, length};
+ghost use Rattle.std.specs.Prelude.{Some, ◌≡◌, ◌&&◌, ◌+◌, ◌≤◌, ◌<◌, ltb, length, set};
 ghost use Rattle.std.proofs.Math.Option.{none};
 ghost use Rattle.logic.specs.Refusals.{unless};
 ghost use Rattle.counting.specs.Trees.{at_most, more_than};
@@ -12,13 +12,13 @@ ghost use Rattle.rows.specs.HeldRows.{rows_held};
 ghost use Rattle.list_leaf.specs.Leaf.{limits_held, marked};
 ghost use Rattle.list_leaf.specs.OpenLaws.{Among};
 ghost use Rattle.list_tree.specs.declared.Fit.TheVariants.{Splitting};
-ghost use Rattle.list_tree.specs.TreeSteps.{row_limit, meant, fit_node, fit_refusal, is_fit, closed_in, end_of};
+ghost use Rattle.list_tree.specs.TreeSteps.{meant, fit_node, fit_refusal, is_fit, closed_in, end_of};
 ghost use Rattle.list_tree.specs.ListTree.{value_fits, closing_in};
 
 use list_form::{Node, read_node};
 use list_leaf::{Limit, leaf_closes, open_cells};
 use parts::{byte, mask2};
-use rows::{Row, cell_count, row_at};
+use rows::{Rows, cell_count, row_at};
 use std::array;
 use tables::Side;
 
@@ -29,142 +29,165 @@ enum Fit {
     Splitting,
 }
 
-// The limit that a row is.
-fn limit_of(row: Row) -> Limit
-    ensures { result ≡ row_limit row }
-{
-    let side = row.side;
-    Limit {
-        bound: row.bound,
-        side: side,
-        cell: 0,
-    }
+// The limits on the way to a node: the first `len` that an array holds; the rows, then the halves of the splits passed.
+#[derive(Clone, Copy)]
+struct Way {
+    limits: [Limit; 14],
+    len: u8,
 }
 
-// The first `k` rows as limits.
-fn row_limits(rows: [Row; 6], k: u8) -> [Limit; 14]
-    requires { k ≤ 6 }
-    ensures { (length result ≡ 14) × (limits_held k result k ≡ limits (bounds (rows_held rows k))) }
-{
-    let none = Limit {
-        bound: 0,
-        side: Side::Lower,
-        cell: 0,
-    };
-    array::from_fn(|i| {
-        let i = i as u8;
-        if i < k {
-            limit_of(row_at(rows, k, i))
-        } else {
-            none
-        }
-    })
-}
-
-// The limits that the halves of the split at `at` bring: at most its value,
-fn low_half(ds: &[u8], at: usize) -> Limit
-    requires { at + 4 ≤ length ds.now }
-    ensures { meant result ≡ at_most (byte_at ds.now (at + 1)) (num2 ds.now (at + 2)) }
-{
-    Limit {
-        bound: mask2(ds, at + 2),
-        side: Side::Upper,
-        cell: byte(ds, at + 1),
-    }
-}
-
-// and at least one more.
-fn high_half(ds: &[u8], at: usize) -> Limit
-    requires { (at + 4 ≤ length ds.now) × (num2 ds.now (at + 2) ≤ 1000) }
-    ensures { meant result ≡ more_than (byte_at ds.now (at + 1)) (num2 ds.now (at + 2)) }
-{
-    Limit {
-        bound: mask2(ds, at + 2) + 1,
-        side: Side::Lower,
-        cell: byte(ds, at + 1),
-    }
-}
-
-// Whether the split at `at` is of a marked cell, at a value of at most 1,000.
-fn split_fits(ds: &[u8], marks: &[bool; 64], at: usize) -> bool
-    requires { at + 4 ≤ length ds.now }
-    ensures { result ≡ (ltb (byte_at ds.now (at + 1)) 64 && (marked marks.now (byte_at ds.now (at + 1)) && value_fits (num2 ds.now (at + 2)))) }
-{
-    let c = byte(ds, at + 1) as usize;
-    if 64 <= c {
-        return false;
-    }
-    let v = mask2(ds, at + 2);
-    marks[c] & (v <= 1000)
-}
-
-// The node at `at` under `n` limits, if it fits.
-fn fit_node(ds: &[u8], marks: &[bool; 64], k: u8, way: [Limit; 14], n: u8, at: usize) -> Option<Fit>
-    requires { (k ≤ 6) × (k ≤ n) × (n ≤ 14) × Among k marks.now }
-    ensures { (result ≡ fit_node ds.now k (marked marks.now) n (limits_held k way n) at) × (fit_refusal result ≡ unless (is_fit (fit_node ds.now k (marked marks.now) n (limits_held k way n) at)) 19 none) }
-{
-    match read_node(ds, n, at)? {
-        Node::Leaf(end) => {
-            if leaf_closes(way, k, marks, &ds[at + 1..end]) {
-                Some(Fit::Closing(end))
-            } else {
-                None
-            }
-        }
-        Node::Split => {
-            if split_fits(ds, marks, at) {
-                Some(Fit::Splitting)
-            } else {
-                None
-            }
+impl Way {
+    // The rows as limits.
+    fn of_rows(rows: &Rows) -> Way
+        requires { rows.now.count ≤ 6 }
+        ensures { (length result.limits ≡ 14) × (result.len ≡ rows.now.count)
+            × (limits_held rows.now.count result.limits rows.now.count ≡ limits (bounds (rows_held rows.now.held rows.now.count))) }
+    {
+        let none = Limit {
+            bound: 0,
+            side: Side::Lower,
+            cell: 0,
+        };
+        Way {
+            limits: array::from_fn(|i| {
+                let i = i as u8;
+                if i < rows.count {
+                    Limit::from(row_at(rows, i))
+                } else {
+                    none
+                }
+            }),
+            len: rows.count,
         }
     }
+
+    // The way with one limit more.
+    fn with(&self, x: Limit) -> Way
+        requires { self.now.len < 14 }
+        ensures { (result.limits ≡ set self.now.limits self.now.len x) × (result.len ≡ self.now.len + 1) }
+    {
+        let mut path = *self;
+        path.limits[self.len as usize] = x;
+        path.len = self.len + 1;
+        path
+    }
 }
 
-// Where the tree at `at` ends, if it closes under `n` limits, with at most `left` splits above a leaf.
-fn closes_at(
-    ds: &[u8],
-    marks: &[bool; 64],
+// A tree as it is walked: the bytes of its step, the marks of the open cells, and the number of rows.
+#[derive(Clone, Copy)]
+struct Tree<'a> {
+    ds: &'a [u8],
+    marks: &'a [bool; 64],
     k: u8,
-    left: u8,
-    way: [Limit; 14],
-    n: u8,
-    at: usize,
-) -> Option<usize>
-    requires { (k ≤ 6) × (k ≤ n) × (n + left ≤ 14) × (length way ≡ 14) × Among k marks.now }
-    ensures { result ≡ end_of (closed_in ds.now k (marked marks.now) left n (limits_held k way n) at) }
-{
-    match fit_node(ds, marks, k, way, n, at)? {
-        Fit::Closing(end) => Some(end),
-        Fit::Splitting => {
-            if left == 0 {
-                return None;
-            }
-            let mut path = way;
-            path[n as usize] = low_half(ds, at);
-            let next = closes_at(ds, marks, k, left - 1, path, n + 1, at + 4)?;
-            path[n as usize] = high_half(ds, at);
-            closes_at(ds, marks, k, left - 1, path, n + 1, next)
+}
+
+impl<'a> Tree<'a> {
+    // The limits that the halves of the split at `at` bring: at most its value,
+    fn low_half(&self, at: usize) -> Limit
+        requires { at + 4 ≤ length self.now.ds.now }
+        ensures { meant result ≡ at_most (byte_at self.now.ds.now (at + 1)) (num2 self.now.ds.now (at + 2)) }
+    {
+        Limit {
+            bound: mask2(self.ds, at + 2),
+            side: Side::Upper,
+            cell: byte(self.ds, at + 1),
         }
+    }
+
+    // and at least one more.
+    fn high_half(&self, at: usize) -> Limit
+        requires { (at + 4 ≤ length self.now.ds.now) × (num2 self.now.ds.now (at + 2) ≤ 1000) }
+        ensures { meant result ≡ more_than (byte_at self.now.ds.now (at + 1)) (num2 self.now.ds.now (at + 2)) }
+    {
+        Limit {
+            bound: mask2(self.ds, at + 2) + 1,
+            side: Side::Lower,
+            cell: byte(self.ds, at + 1),
+        }
+    }
+
+    // Whether the split at `at` is of a marked cell, at a value of at most 1,000.
+    fn split_fits(&self, at: usize) -> bool
+        requires { at + 4 ≤ length self.now.ds.now }
+        ensures { result ≡ (ltb (byte_at self.now.ds.now (at + 1)) 64
+            && (marked self.now.marks.now (byte_at self.now.ds.now (at + 1)) && value_fits (num2 self.now.ds.now (at + 2)))) }
+    {
+        let c = byte(self.ds, at + 1) as usize;
+        if 64 <= c {
+            return false;
+        }
+        let v = mask2(self.ds, at + 2);
+        self.marks[c] & (v <= 1000)
+    }
+
+    // The node at `at` under the limits on its way, if it fits.
+    fn fit_node(&self, way: &Way, at: usize) -> Option<Fit>
+        requires { (self.now.k ≤ 6) × (self.now.k ≤ way.now.len) × (way.now.len ≤ 14) × Among self.now.k self.now.marks.now }
+        ensures { (result ≡ fit_node self.now.ds.now self.now.k (marked self.now.marks.now) way.now.len
+            (limits_held self.now.k way.now.limits way.now.len) at)
+            × (fit_refusal result ≡ unless (is_fit (fit_node self.now.ds.now self.now.k (marked self.now.marks.now) way.now.len
+            (limits_held self.now.k way.now.limits way.now.len) at)) 19 none) }
+    {
+        match read_node(self.ds, way.len, at)? {
+            Node::Leaf(end) => {
+                if leaf_closes(&way.limits, self.k, self.marks, &self.ds[at + 1..end]) {
+                    Some(Fit::Closing(end))
+                } else {
+                    None
+                }
+            }
+            Node::Split => {
+                if self.split_fits(at) {
+                    Some(Fit::Splitting)
+                } else {
+                    None
+                }
+            }
+        }
+    }
+
+    // Where the tree at `at` ends, if it closes under the limits on its way, with at most `left` splits above a leaf.
+    fn closes_at(&self, way: &Way, left: u8, at: usize) -> Option<usize>
+        requires { (self.now.k ≤ 6) × (self.now.k ≤ way.now.len) × (way.now.len + left ≤ 14) × (length way.now.limits ≡ 14)
+            × Among self.now.k self.now.marks.now }
+        ensures { result ≡ end_of (closed_in self.now.ds.now self.now.k (marked self.now.marks.now) left way.now.len
+            (limits_held self.now.k way.now.limits way.now.len) at) }
+    {
+        match self.fit_node(way, at)? {
+            Fit::Closing(end) => Some(end),
+            Fit::Splitting => {
+                if left == 0 {
+                    return None;
+                }
+                let mut path = way.with(self.low_half(at));
+                let next = self.closes_at(&path, left - 1, at + 4)?;
+                // In the place of the first half, so that a level holds one array.
+                path.limits[way.len as usize] = self.high_half(at);
+                self.closes_at(&path, left - 1, next)
+            }
+        }
+    }
+
+    // Where the tree ends whose root at `at` is a split that fits under the rows, if it closes.
+    fn halves_close(&self, way: &Way, at: usize) -> Option<usize>
+        requires { (self.now.k ≤ 6) × (way.now.len ≡ self.now.k) × (length way.now.limits ≡ 14) × Among self.now.k self.now.marks.now
+            × (Some Splitting ≡ fit_node self.now.ds.now self.now.k (marked self.now.marks.now) self.now.k
+            (limits_held self.now.k way.now.limits self.now.k) at) }
+        ensures { result ≡ end_of (closed_in self.now.ds.now self.now.k (marked self.now.marks.now) 8 self.now.k
+            (limits_held self.now.k way.now.limits self.now.k) at) }
+    {
+        let mut path = way.with(self.low_half(at));
+        let next = self.closes_at(&path, 7, at + 4)?;
+        path.limits[way.len as usize] = self.high_half(at);
+        self.closes_at(&path, 7, next)
     }
 }
 
-// Where the tree ends whose root at `at` is a split that fits under the `k` rows, if it closes.
-fn halves_close(ds: &[u8], marks: &[bool; 64], k: u8, way: [Limit; 14], at: usize) -> Option<usize>
-    requires { (k ≤ 6) × (length way ≡ 14) × Among k marks.now × (Some Splitting ≡ fit_node ds.now k (marked marks.now) k (limits_held k way k) at) }
-    ensures { result ≡ end_of (closed_in ds.now k (marked marks.now) 8 k (limits_held k way k) at) }
+// Whether the tree of the step `ds` closes its rows over the open cells: test 19.
+pub fn tree_closes(rows: &Rows, ds: &[u8]) -> bool
+    ensures { result ≡ closing_in (bounds (rows_held rows.now.held rows.now.count)) ds.now rows.now.count }
 {
-    let mut path = way;
-    path[k as usize] = low_half(ds, at);
-    let next = closes_at(ds, marks, k, 7, path, k + 1, at + 4)?;
-    path[k as usize] = high_half(ds, at);
-    closes_at(ds, marks, k, 7, path, k + 1, next)
-}
-
-// Whether the tree of the step `ds` closes its `k` rows over the open cells: test 19.
-pub fn tree_closes(rows: [Row; 6], k: u8, ds: &[u8]) -> bool
-    ensures { result ≡ closing_in (bounds (rows_held rows k)) ds.now k }
-{
+    let k = rows.count;
     if 6 < k {
         return false;
     }
@@ -173,13 +196,18 @@ pub fn tree_closes(rows: [Row; 6], k: u8, ds: &[u8]) -> bool
     if ds.len() < start {
         return false;
     }
-    let way = row_limits(rows, k);
+    let way = Way::of_rows(rows);
     let marks = open_cells(&ds[from..start], k);
+    let tree = Tree {
+        ds,
+        marks: &marks,
+        k,
+    };
     // The root is looked at here too, so that a leaf's sums lie once above the deepest split and not on every level (docs/COST.md);
     // and split here, so that the deepest tree takes one level less.
-    match fit_node(ds, &marks, k, way, k, start) {
+    match tree.fit_node(&way, start) {
         None => false,
         Some(Fit::Closing(_)) => true,
-        Some(Fit::Splitting) => halves_close(ds, &marks, k, way, start).is_some(),
+        Some(Fit::Splitting) => tree.halves_close(&way, start).is_some(),
     }
 }

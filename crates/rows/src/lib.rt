@@ -24,6 +24,13 @@ pub struct Row {
     pub side: Side,
 }
 
+// The rows of a step: the first `count` that an array holds, or 6 if there are more.
+#[derive(Clone, Copy)]
+pub struct Rows {
+    pub held: [Row; 6],
+    pub count: u8,
+}
+
 // From a table: of a power that is made by a shift the compiler makes a shift for each turn of a loop up to it.
 const COUNTS: [usize; 7] = [1, 2, 4, 8, 16, 32, 64];
 
@@ -116,12 +123,15 @@ fn row_in(cs: &[u8], ds: &[u8], i: usize) -> Row
 }
 
 // The first `k` rows of the step `ds`, or 6 if there are more; none behind them.
-pub fn rows_of(cs: &[u8], ds: &[u8], k: u8) -> [Row; 6]
-    ensures { (rows_held result (up_to 6 k) ≡ rows_of (without_roles cs.now []) (bytes_at literal ds.now 2 (up_to 6 k)))
-        × ((i : ℕ) → up_to 6 k ≤ i → held_at result i ≡ no_row) }
+pub fn rows_of(cs: &[u8], ds: &[u8], k: u8) -> Rows
+    ensures { (rows_held result.held (up_to 6 k) ≡ rows_of (without_roles cs.now []) (bytes_at literal ds.now 2 (up_to 6 k)))
+        × ((i : ℕ) → up_to 6 k ≤ i → held_at result.held i ≡ no_row) × (result.count ≡ k) }
 {
     let n = up_to(6, k as usize) as usize;
-    array::from_fn(|i| if i < n { row_in(cs, ds, i) } else { no_row() })
+    Rows {
+        held: array::from_fn(|i| if i < n { row_in(cs, ds, i) } else { no_row() }),
+        count: k,
+    }
 }
 
 // How many rows are lent.
@@ -143,16 +153,17 @@ fn lent_row(rows: &[Row], i: usize) -> Row
 }
 
 // Row `i` of the first `k` rows that an array holds, which are lent.
-fn held_row(rows: [Row; 6], k: usize, i: usize) -> Row
+fn held_row(rows: &[Row; 6], k: usize, i: usize) -> Row
     requires { k ≤ 6 }
-    ensures { result ≡ get_or (take k rows) i no_row }
+    ensures { result ≡ get_or (take k rows.now) i no_row }
 {
     lent_row(&rows[..k], i)
 }
 
-// Row `i` of the first `k` rows held, or of 6 if there are more; none past them.
-pub fn row_at(rows: [Row; 6], k: u8, i: u8) -> Row
-    ensures { result ≡ first_at rows k i }
+// Row `i` of these rows; none past them.
+pub fn row_at(rows: &Rows, i: u8) -> Row
+    ensures { result ≡ first_at rows.now.held rows.now.count i }
 {
-    held_row(rows, up_to(6, k as usize) as usize, i as usize)
+    let count = up_to(6, rows.count as usize) as usize;
+    held_row(&rows.held, count, i as usize)
 }

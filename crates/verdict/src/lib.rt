@@ -7,29 +7,23 @@ ghost use Rattle.verdict.specs.Verdict.{verdict};
 ghost use Rattle.verdict.specs.VerdictSteps.{opened_verdict, verdict_or};
 
 use answers::{Refusal, Verdict};
-use directory::{concepts_part, has_four, query_part};
 use graph_check::test_sample;
-use intake::open_description;
+use intake::{Opening, open_description};
 use list_check::test_list;
 use nodes::root_set;
 use parts::byte;
 
-// The verdict on an opened description with evidence, by the masks of so many roles; `marks` tells whether there is a fourth part.
-fn check_opened(
-    m: &[u16; 49],
-    roles: u8,
-    cs: &[u8],
-    qs: &[u8],
-    s: &[u8],
-    marks: bool,
-) -> Result<Verdict, Refusal>
-    ensures { of_verdict (verdict_or result) ≡ opened_verdict marks m.now roles cs.now qs.now s.now }
+// The verdict on an opened description with evidence.
+fn check_opened(o: &Opening, s: &[u8]) -> Result<Verdict, Refusal>
+    ensures { let d = o.now in
+        of_verdict (verdict_or result) ≡ opened_verdict d.marks d.masks d.count d.concepts.now d.query.now s.now }
 {
+    // Evidence of any other head is tested as a graph, which refuses what is off.
     if byte(s, 0) == 2 {
-        test_list(m, cs, qs, root_set(qs), s, marks)?;
+        test_list(o, root_set(o.query), s)?;
         return Ok(Verdict::Empty);
     }
-    test_sample(m, roles, cs, qs, s)?;
+    test_sample(o, s)?;
     Ok(Verdict::Inhabited)
 }
 
@@ -37,15 +31,9 @@ fn check_opened(
 fn judge(d: &[u8], s: &[u8]) -> Result<Verdict, Refusal>
     ensures { of_verdict (verdict_or result) ≡ verdict d.now s.now }
 {
-    let o = open_description(d)?;
-    check_opened(
-        &o.masks,
-        o.count,
-        concepts_part(d),
-        query_part(d),
-        s,
-        has_four(d),
-    )
+    let o = open_description(d);
+    o.tested?;
+    check_opened(&o, s)
 }
 
 // The verdict on a description with evidence, for slices of every length.

@@ -32,7 +32,7 @@ pub trait Bits: Copy {
         ensures { result ≡ not (eqb (bit_and (set self) (set y)) 0) };
 
     // The set with `i` put in, if `asked` and if there is a place for it.
-    fn put(self, i: u8, asked: bool) -> Self
+    fn put(self, i: usize, asked: bool) -> Self
         ensures { set result ≡ put_in (set self) i (ltb i width && asked) };
 }
 
@@ -50,7 +50,7 @@ pub fn set_where<F: Fn(u8) -> bool>(n: u8, test: F) -> u64
 {
     let mut out: u64 = 0;
     for i in 0..n {
-        out = out.put(i, test(i));
+        out = out.put(i as usize, test(i));
     }
     out
 }

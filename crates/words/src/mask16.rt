@@ -1,4 +1,5 @@
-// Masks of 16 digits: sets of roles or rows.
+// Masks of 16 digits: sets of roles or rows. The text is that of word64 but for the type and its width: a shift asks for the type, and
+// `rt ci` refuses an impl that a macro of the repository writes.
 use super::Bits;
 
 impl Bits for u16 {
@@ -22,7 +23,7 @@ impl Bits for u16 {
         self & y != 0
     }
 
-    fn put(self, i: u8, asked: bool) -> u16 {
+    fn put(self, i: usize, asked: bool) -> u16 {
         if (i < 16) & asked {
             self | (1 << (i % 16))
         } else {

@@ -10,6 +10,6 @@ use Rattle.cell_labels.proofs.above_of.Goals as goal
 
 pub returns : goal.returns
 returns c = let g = c.args in let r = c.from_fn.ensures.items in
-    let made = each_made (λ i b. (b ≡ only (ltb i g.k) (above_of g.m.now (given (first_at g.rows g.k i)))) × (b < 65536)) 0
+    let made = each_made (λ i b. (b ≡ only (ltb i g.rows.now.count) (above_of g.m.now (given (first_at g.rows.now.held g.rows.now.count i)))) × (b < 65536)) 0
     (λ i b q e. search rules) c.from_fn.result 6 r in
-    (six_made g.rows g.k (λ R. above_of g.m.now (given R)) c.from_fn.result r.long (λ i l. (made i l).0), λ i l. (made i l).1)
+    (six_made g.rows.now.held g.rows.now.count (λ R. above_of g.m.now (given R)) c.from_fn.result r.long (λ i l. (made i l).0), λ i l. (made i l).1)

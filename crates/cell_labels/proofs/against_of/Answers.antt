@@ -9,5 +9,5 @@ use Rattle.cell_labels.proofs.against_of.Goals as goal
 
 pub returns : goal.returns
 returns c = let g = c.args in let r = c.from_fn.ensures.items in
-    six_made g.rows g.k (λ R. denied_by (given R)) c.from_fn.result r.long
-    (each_made (λ i b. b ≡ only (ltb i g.k) (denied_by (given (first_at g.rows g.k i)))) 0 (λ i b q e. search rules) c.from_fn.result 6 r)
+    six_made g.rows.now.held g.rows.now.count (λ R. denied_by (given R)) c.from_fn.result r.long
+    (each_made (λ i b. b ≡ only (ltb i g.rows.now.count) (denied_by (given (first_at g.rows.now.held g.rows.now.count i)))) 0 (λ i b q e. search rules) c.from_fn.result 6 r)

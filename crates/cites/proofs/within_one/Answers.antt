@@ -5,5 +5,5 @@ use borrow.Author.Rules.{rules}
 use Rattle.cites.proofs.within_one.Goals as goal
 
 pub returns : goal.returns
-returns c = let y = c.record_label.result in let few = label_few y (search rules) (search rules) in
-    c.lies_within.ensures ∙ one_put (value_of y) few _ _ _ _ c.record_label.ensures c.put.ensures
+returns c = let y = c.label.result in let few = label_few y (search rules) (search rules) in
+    c.lies_within.ensures ∙ one_put (value_of y) few _ _ _ _ c.label.ensures c.put.ensures

@@ -11,12 +11,12 @@ loop-x-init c = (omega arith, refl)
 pub loop-x-preserved : goal.loop-x-preserved
 loop-x-preserved c = let v = c.loop-x.invariant in (
   omega (arith, c.max-most.ensures, c.most_to.ensures.1),
-  copies_more c.args.f c.args.s.now c.args.n c.loop-x.x _ _ _ _ v.1
-      c.record_edges-es.ensures c.most_to.ensures.0 c.max-most.ensures,
+  copies_more c.args.s.now.layout c.args.s.now.bytes.now c.args.n c.loop-x.x _ _ _ _ v.1
+      c.rest-es.ensures c.most_to.ensures.0 c.max-most.ensures,
 )
 
 pub returns : goal.returns
 returns c = let v = c.loop-x.invariant in (
-  copies_end c.args.f c.args.s.now c.args.n c.loop-x.x _ (omega arith) (omega arith) v.1,
+  copies_end c.args.s.now.layout c.args.s.now.bytes.now c.args.n c.loop-x.x _ (omega arith) (omega arith) v.1,
   v.0,
 )

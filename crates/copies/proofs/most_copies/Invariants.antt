@@ -5,4 +5,4 @@ use Rattle.copies.specs.Copying.{most_from}
 use Rattle.copies.proofs.most_copies.Given as goal
 
 abbrev pub invariant-loop-x : goal.invariant-loop-x
-invariant-loop-x l = (l.most ≤ 32 * 65535) × (l.most ≡ max 1 (max_below l.x (most_from l.f l.s l.n)))
+invariant-loop-x l = (l.most ≤ 32 * 65535) × (l.most ≡ max 1 (max_below l.x (most_from l.s.layout l.s.bytes.now l.n)))

@@ -19,17 +19,17 @@ test_all-requires c = (head_is_list c.args.s.now _ (head (goal.at.test_all-requi
 pub returns-in-Some-RefutationOf : goal.returns-in-Some-RefutationOf
 returns-in-Some-RefutationOf c = let g = c.args in
     let w = head_is_list g.s.now _ (head (goal.at.returns-in-Some-RefutationOf c).In-Some-RefutationOf) in
-    c.test_all.ensures ∙ head_on g.marks g.m.now g.cs.now g.qs.now (value_of g.want) g.s.now _ _ w.0 w.1.0
-    c.layout_of-f.ensures
+    c.test_all.ensures ∙ head_on g.o.now.marks g.o.now.masks g.o.now.concepts.now g.o.now.query.now (value_of g.want) g.s.now _ _ w.0 w.1.0
+    c.layout_of.ensures
 
 pub returns-in-Some-GraphOf : goal.returns-in-Some-GraphOf
 returns-in-Some-GraphOf c = let g = c.args in
-    rw c.whole-off.ensures (head_stop g.marks g.m.now g.cs.now g.qs.now (value_of g.want) g.s.now
+    rw c.whole-off.ensures (head_stop g.o.now.marks g.o.now.masks g.o.now.concepts.now g.o.now.query.now (value_of g.want) g.s.now
     (head_no_list g.s.now _ c.read_head.ensures.0
     (λ n e. let q = c.in-Some-GraphOf.is in let r = c.in-Some-GraphOf.field-0-is in let z : ◌≡◌ {A = ℕ} 0 1 = cc in omega arith)))
 
 pub returns-in-None : goal.returns-in-None
 returns-in-None c = let g = c.args in
-    rw c.whole-off.ensures (head_stop g.marks g.m.now g.cs.now g.qs.now (value_of g.want) g.s.now
+    rw c.whole-off.ensures (head_stop g.o.now.marks g.o.now.masks g.o.now.concepts.now g.o.now.query.now (value_of g.want) g.s.now
     (head_no_list g.s.now _ c.read_head.ensures.0
     (λ n e. let q = c.in-None.is in let z : ◌≡◌ {A = ℕ} 0 1 = cc in omega arith)))

@@ -1,7 +1,6 @@
-use Rattle.std.specs.Prelude.{◌≡◌, ◌+◌, ◌*◌, get_or}
-use Rattle.std.proofs.Common.{rules, sym, ◌∙◌, ap, arith}
-use Rattle.logic.specs.Bounded.{any_below, any_none}
-use Rattle.list_leaf.specs.Weights.{unfair_at, unfair_block}
+use Rattle.std.proofs.Common.{rules, sym}
+use Rattle.logic.specs.Bounded.{any_none}
+use Rattle.list_leaf.specs.Weights.{unfair_block}
 use Rattle.list_leaf.specs.WeightSteps.{any_next}
 use Rattle.list_leaf.proofs.balanced.Goals as goal
 

@@ -1,6 +1,5 @@
-use Rattle.std.specs.Prelude.{◌≡◌, ◌+◌, get_or}
-use Rattle.std.proofs.Common.{sym, ◌∙◌, ap, arith}
-use Rattle.logic.specs.Bounded.{any_below, any_none}
+use Rattle.std.proofs.Common.{sym}
+use Rattle.logic.specs.Bounded.{any_none}
 use Rattle.list_leaf.specs.Weights.{unfair_at}
 use Rattle.list_leaf.specs.WeightSteps.{any_next}
 use Rattle.list_leaf.proofs.block_unfair.Goals as goal

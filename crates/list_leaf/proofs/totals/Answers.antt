@@ -14,7 +14,7 @@ overflow_add-sum c = let v = c.loop-i in let t = v.invariant in let p = c.price_
 
 pub loop-i-preserved : goal.loop-i-preserved
 loop-i-preserved c = let v = c.loop-i in let a = c.args in
-    totals_more a.way a.ms.now v.i v.sum c.price_of-sum.result c.price_of-sum.ensures.1 c.price_of-sum.ensures.0 v.invariant
+    totals_more a.way.now a.ms.now v.i v.sum c.price_of-sum.result c.price_of-sum.ensures.1 c.price_of-sum.ensures.0 v.invariant
 
 pub returns : goal.returns
 returns c = let v = c.loop-i in let z : v.i ≡ length c.args.ms.now = omega (arith, v.auto.i-end) in rw (← z) v.invariant

@@ -5,4 +5,4 @@ use Rattle.rows.proofs.row_at.Goals as goal
 
 pub returns : goal.returns
 returns c = let a = c.args in
-    c.held_row.ensures ∙ ap (λ n. get_or (take n a.rows) a.i no_row) c.up_to.ensures.0
+    c.held_row.ensures ∙ ap (λ n. get_or (take n a.rows.now.held) a.i no_row) c.up_to-count.ensures.0

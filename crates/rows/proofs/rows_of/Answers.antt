@@ -19,4 +19,5 @@ returns c = let g = c.args in
     let few : up_to 6 g.k ≤ 6 = omega (arith, c.up_to.ensures.0, c.up_to.ensures.1) in (
       rows_held_lem g.cs.now g.ds.now _ _ few (λ i l. made i (omega arith) ∙ (rw (lt-ltb i (up_to 6 g.k) l) refl)),
       λ i l. none_held _ i (behind (λ i. row_in g.cs.now g.ds.now i) (up_to 6 g.k) _ c.from_fn.ensures.items.long made i l),
+      refl,
     )

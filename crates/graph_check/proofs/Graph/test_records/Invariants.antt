@@ -7,5 +7,5 @@ use Rattle.graph_check.specs.GraphSteps.{records_with}
 use Rattle.graph_check.proofs.Graph.test_records.Given as goal
 
 abbrev pub invariant-loop-i : goal.invariant-loop-i
-invariant-loop-i l = let g = l.self in let code = records_with g.masks.now g.roles g.cs.now l.src (value_of l.first) (value_of l.later) g.form g.s.now g.n in
+invariant-loop-i l = let g = l.self in let code = records_with g.o.now.masks g.o.now.count g.o.now.concepts.now l.src (value_of l.first) (value_of l.later) g.s.layout g.s.bytes.now g.n in
     refuse_from code (g.n - l.i) l.i none ≡ refuse_from code g.n 0 none

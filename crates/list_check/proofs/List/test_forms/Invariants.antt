@@ -8,5 +8,5 @@ use Rattle.list_check.proofs.List.test_forms.Given as goal
 
 abbrev pub invariant-loop-i : goal.invariant-loop-i
 invariant-loop-i l =
-    (refuse_from (form_of l.self.f.marks (edges_part l.self.f l.self.s.now)) (l.n - l.i) l.i none ≡ refuse_from
-    (form_of l.self.f.marks (edges_part l.self.f l.self.s.now)) l.n 0 none)
+    (refuse_from (form_of l.self.s.layout.marks (edges_part l.self.s.layout l.self.s.bytes.now)) (l.n - l.i) l.i none ≡ refuse_from
+    (form_of l.self.s.layout.marks (edges_part l.self.s.layout l.self.s.bytes.now)) l.n 0 none)

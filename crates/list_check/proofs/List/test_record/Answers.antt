@@ -5,5 +5,5 @@ use Rattle.list_check.proofs.List.test_record.Goals as goal
 
 pub returns : goal.returns
 returns c = let g = c.args in let o = g.self.now in
-    c.test_labelled.ensures ∙ record_read o.f.marks o.m.now o.cs.now o.qs.now (label_of o.f o.s.now)
-    (edges_part o.f o.s.now) g.i _ _ c.record_label-x.ensures c.record_edges.ensures
+    c.test_labelled.ensures ∙ record_read o.s.layout.marks o.o.now.masks o.o.now.concepts.now o.o.now.query.now (label_of o.s.layout o.s.bytes.now)
+    (edges_part o.s.layout o.s.bytes.now) g.i _ _ c.label-x.ensures c.rest.ensures

@@ -1,5 +1,5 @@
-use Rattle.std.specs.Prelude.{◌&&◌, true, false, ltb}
-use Rattle.std.proofs.Common.{sym, ◌∙◌, ap, ap₂, refl}
+use Rattle.std.specs.Prelude.{◌&&◌, ltb}
+use Rattle.std.proofs.Common.{sym, ◌∙◌, ap, ap₂}
 use Rattle.std.proofs.Math.Option.{some}
 use Rattle.answers.specs.Answers.{numbered}
 use Rattle.logic.specs.Refusals.{test_passes, test_refuses}

@@ -9,16 +9,16 @@ use Rattle.list_steps.specs.StepSteps.{as_both, both_asked}
 use Rattle.list_steps.proofs.Record.sides_within.Goals as goal
 
 pub returns-in-Both : goal.returns-in-Both
-returns-in-Both c = let g = c.args in let o = g.self.now in ap₂ ◌&&◌ (c.within_one-first.ensures ∙ ap (λ l. within (label_of o.f o.s.now g.c) (adding (value_of o.x) (literal l))) c.opposite.ensures) (c.within_one.ensures ∙ ap (λ l. within (label_of o.f o.s.now g.d) (adding (value_of o.x) (literal l))) c.opposite-in-Both.ensures) ∙ ap (as_both (λ a b. within (label_of o.f o.s.now g.c) (adding (value_of o.x) (literal (opposed a))) && within (label_of o.f o.s.now g.d) (adding (value_of o.x) (literal (opposed b))))) (sym c.in-Both.is) ∙ both_asked o.cs.now g.e.0 (λ a b. within (label_of o.f o.s.now g.c) (adding (value_of o.x) (literal (opposed a))) && within (label_of o.f o.s.now g.d) (adding (value_of o.x) (literal (opposed b)))) (λ a b. within (label_of o.f o.s.now g.c) (adding (value_of o.x) (opposite a)) && within (label_of o.f o.s.now g.d) (adding (value_of o.x) (opposite b))) _ (λ a b. rw (literal_code a, literal_code b, literal_code (opposite a), literal_code (opposite b)) refl) c.concept_at.ensures.0
+returns-in-Both c = let g = c.args in let o = g.self.now in ap₂ ◌&&◌ (c.within_one-first.ensures ∙ ap (λ l. within (label_of o.s.layout o.s.bytes.now g.c) (adding (value_of o.x) (literal l))) c.opposite.ensures) (c.within_one.ensures ∙ ap (λ l. within (label_of o.s.layout o.s.bytes.now g.d) (adding (value_of o.x) (literal l))) c.opposite-in-Both.ensures) ∙ ap (as_both (λ a b. within (label_of o.s.layout o.s.bytes.now g.c) (adding (value_of o.x) (literal (opposed a))) && within (label_of o.s.layout o.s.bytes.now g.d) (adding (value_of o.x) (literal (opposed b))))) (sym c.in-Both.is) ∙ both_asked o.cs.now g.e.0 (λ a b. within (label_of o.s.layout o.s.bytes.now g.c) (adding (value_of o.x) (literal (opposed a))) && within (label_of o.s.layout o.s.bytes.now g.d) (adding (value_of o.x) (literal (opposed b)))) (λ a b. within (label_of o.s.layout o.s.bytes.now g.c) (adding (value_of o.x) (opposite a)) && within (label_of o.s.layout o.s.bytes.now g.d) (adding (value_of o.x) (opposite b))) _ (λ a b. rw (literal_code a, literal_code b, literal_code (opposite a), literal_code (opposite b)) refl) c.concept_at.ensures.0
 
 pub returns-in-Top : goal.returns-in-Top
-returns-in-Top c = let g = c.args in let o = g.self.now in ap (as_both (λ a b. within (label_of o.f o.s.now g.c) (adding (value_of o.x) (literal (opposed a))) && within (label_of o.f o.s.now g.d) (adding (value_of o.x) (literal (opposed b))))) (sym c.in-Top.is) ∙ both_asked o.cs.now g.e.0 (λ a b. within (label_of o.f o.s.now g.c) (adding (value_of o.x) (literal (opposed a))) && within (label_of o.f o.s.now g.d) (adding (value_of o.x) (literal (opposed b)))) (λ a b. within (label_of o.f o.s.now g.c) (adding (value_of o.x) (opposite a)) && within (label_of o.f o.s.now g.d) (adding (value_of o.x) (opposite b))) _ (λ a b. rw (literal_code a, literal_code b, literal_code (opposite a), literal_code (opposite b)) refl) c.concept_at.ensures.0
+returns-in-Top c = let g = c.args in let o = g.self.now in ap (as_both (λ a b. within (label_of o.s.layout o.s.bytes.now g.c) (adding (value_of o.x) (literal (opposed a))) && within (label_of o.s.layout o.s.bytes.now g.d) (adding (value_of o.x) (literal (opposed b))))) (sym c.in-Top.is) ∙ both_asked o.cs.now g.e.0 (λ a b. within (label_of o.s.layout o.s.bytes.now g.c) (adding (value_of o.x) (literal (opposed a))) && within (label_of o.s.layout o.s.bytes.now g.d) (adding (value_of o.x) (literal (opposed b)))) (λ a b. within (label_of o.s.layout o.s.bytes.now g.c) (adding (value_of o.x) (opposite a)) && within (label_of o.s.layout o.s.bytes.now g.d) (adding (value_of o.x) (opposite b))) _ (λ a b. rw (literal_code a, literal_code b, literal_code (opposite a), literal_code (opposite b)) refl) c.concept_at.ensures.0
 
 pub returns-in-Name : goal.returns-in-Name
-returns-in-Name c = let g = c.args in let o = g.self.now in ap (as_both (λ a b. within (label_of o.f o.s.now g.c) (adding (value_of o.x) (literal (opposed a))) && within (label_of o.f o.s.now g.d) (adding (value_of o.x) (literal (opposed b))))) (sym c.in-Name.is) ∙ both_asked o.cs.now g.e.0 (λ a b. within (label_of o.f o.s.now g.c) (adding (value_of o.x) (literal (opposed a))) && within (label_of o.f o.s.now g.d) (adding (value_of o.x) (literal (opposed b)))) (λ a b. within (label_of o.f o.s.now g.c) (adding (value_of o.x) (opposite a)) && within (label_of o.f o.s.now g.d) (adding (value_of o.x) (opposite b))) _ (λ a b. rw (literal_code a, literal_code b, literal_code (opposite a), literal_code (opposite b)) refl) c.concept_at.ensures.0
+returns-in-Name c = let g = c.args in let o = g.self.now in ap (as_both (λ a b. within (label_of o.s.layout o.s.bytes.now g.c) (adding (value_of o.x) (literal (opposed a))) && within (label_of o.s.layout o.s.bytes.now g.d) (adding (value_of o.x) (literal (opposed b))))) (sym c.in-Name.is) ∙ both_asked o.cs.now g.e.0 (λ a b. within (label_of o.s.layout o.s.bytes.now g.c) (adding (value_of o.x) (literal (opposed a))) && within (label_of o.s.layout o.s.bytes.now g.d) (adding (value_of o.x) (literal (opposed b)))) (λ a b. within (label_of o.s.layout o.s.bytes.now g.c) (adding (value_of o.x) (opposite a)) && within (label_of o.s.layout o.s.bytes.now g.d) (adding (value_of o.x) (opposite b))) _ (λ a b. rw (literal_code a, literal_code b, literal_code (opposite a), literal_code (opposite b)) refl) c.concept_at.ensures.0
 
 pub returns-in-Every : goal.returns-in-Every
-returns-in-Every c = let g = c.args in let o = g.self.now in ap (as_both (λ a b. within (label_of o.f o.s.now g.c) (adding (value_of o.x) (literal (opposed a))) && within (label_of o.f o.s.now g.d) (adding (value_of o.x) (literal (opposed b))))) (sym c.in-Every.is) ∙ both_asked o.cs.now g.e.0 (λ a b. within (label_of o.f o.s.now g.c) (adding (value_of o.x) (literal (opposed a))) && within (label_of o.f o.s.now g.d) (adding (value_of o.x) (literal (opposed b)))) (λ a b. within (label_of o.f o.s.now g.c) (adding (value_of o.x) (opposite a)) && within (label_of o.f o.s.now g.d) (adding (value_of o.x) (opposite b))) _ (λ a b. rw (literal_code a, literal_code b, literal_code (opposite a), literal_code (opposite b)) refl) c.concept_at.ensures.0
+returns-in-Every c = let g = c.args in let o = g.self.now in ap (as_both (λ a b. within (label_of o.s.layout o.s.bytes.now g.c) (adding (value_of o.x) (literal (opposed a))) && within (label_of o.s.layout o.s.bytes.now g.d) (adding (value_of o.x) (literal (opposed b))))) (sym c.in-Every.is) ∙ both_asked o.cs.now g.e.0 (λ a b. within (label_of o.s.layout o.s.bytes.now g.c) (adding (value_of o.x) (literal (opposed a))) && within (label_of o.s.layout o.s.bytes.now g.d) (adding (value_of o.x) (literal (opposed b)))) (λ a b. within (label_of o.s.layout o.s.bytes.now g.c) (adding (value_of o.x) (opposite a)) && within (label_of o.s.layout o.s.bytes.now g.d) (adding (value_of o.x) (opposite b))) _ (λ a b. rw (literal_code a, literal_code b, literal_code (opposite a), literal_code (opposite b)) refl) c.concept_at.ensures.0
 
 pub returns-in-AtLeast : goal.returns-in-AtLeast
-returns-in-AtLeast c = let g = c.args in let o = g.self.now in ap (as_both (λ a b. within (label_of o.f o.s.now g.c) (adding (value_of o.x) (literal (opposed a))) && within (label_of o.f o.s.now g.d) (adding (value_of o.x) (literal (opposed b))))) (sym c.in-AtLeast.is) ∙ both_asked o.cs.now g.e.0 (λ a b. within (label_of o.f o.s.now g.c) (adding (value_of o.x) (literal (opposed a))) && within (label_of o.f o.s.now g.d) (adding (value_of o.x) (literal (opposed b)))) (λ a b. within (label_of o.f o.s.now g.c) (adding (value_of o.x) (opposite a)) && within (label_of o.f o.s.now g.d) (adding (value_of o.x) (opposite b))) _ (λ a b. rw (literal_code a, literal_code b, literal_code (opposite a), literal_code (opposite b)) refl) c.concept_at.ensures.0
+returns-in-AtLeast c = let g = c.args in let o = g.self.now in ap (as_both (λ a b. within (label_of o.s.layout o.s.bytes.now g.c) (adding (value_of o.x) (literal (opposed a))) && within (label_of o.s.layout o.s.bytes.now g.d) (adding (value_of o.x) (literal (opposed b))))) (sym c.in-AtLeast.is) ∙ both_asked o.cs.now g.e.0 (λ a b. within (label_of o.s.layout o.s.bytes.now g.c) (adding (value_of o.x) (literal (opposed a))) && within (label_of o.s.layout o.s.bytes.now g.d) (adding (value_of o.x) (literal (opposed b)))) (λ a b. within (label_of o.s.layout o.s.bytes.now g.c) (adding (value_of o.x) (opposite a)) && within (label_of o.s.layout o.s.bytes.now g.d) (adding (value_of o.x) (opposite b))) _ (λ a b. rw (literal_code a, literal_code b, literal_code (opposite a), literal_code (opposite b)) refl) c.concept_at.ensures.0

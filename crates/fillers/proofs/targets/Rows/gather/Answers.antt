@@ -11,5 +11,5 @@ loop-j-init c = gather_none _ _ _ _ _ c.requires
 pub loop-j-preserved : goal.loop-j-preserved
 loop-j-preserved c = let edge = c.edge_at-e in
     gather_more edge.result _ _ _ _ _ _ (omega arith) edge.ensures.0 (search rules) (mod-eq_of_lt edge.ensures.1)
-    c.record_label-x.ensures (label_few c.record_label-x.result (search rules) (search rules))
+    c.label-x.ensures (label_few c.label-x.result (search rules) (search rules))
     c.word_of.ensures c.word_of-in-loop-j.ensures c.word_of-in-loop-j-2.ensures c.word_of-in-loop-j-3.ensures c.loop-j.invariant

@@ -6,5 +6,5 @@ use Rattle.fillers.proofs.targets.Targets.all_have.Goals as goal
 
 pub returns : goal.returns
 returns c = let t = c.args.self.now in let masks = t.rows.now.masks in let words = t.rows.now.words in let p = c.role_place-p.result in let from = c.from_of-from.result in let i = c.place_no-i.result in
-    have_read (label_of t.form t.s.now) t.es.now masks words t.gathered c.args.r.0 c.args.l p from i c.role_place-p.ensures.0 c.from_of-from.ensures.0 c.place_no-i.ensures.0
+    have_read (label_of t.s.layout t.s.bytes.now) t.es.now masks words t.gathered c.args.r.0 c.args.l p from i c.role_place-p.ensures.0 c.from_of-from.ensures.0 c.place_no-i.ensures.0
     _ (c.some_place.ensures (λ j. in_mask masks p j && not (in_word words from i j)) (λ j w h e. search rules))

@@ -20,5 +20,5 @@ loop-j-preserved c = let v = c.loop-j.invariant in let g = c.args in (
 
 pub returns : goal.returns
 returns c = let t = c.args.self.now in let rows = t.rows.now in
-    fillers_read (label_of t.form t.s.now) t.es.now rows.masks rows.words t.gathered c.args.r.0 c.args.l _ _ _ c.role_place-p.ensures.0 c.from_of-from.ensures.0 c.place_no-i.ensures.0
+    fillers_read (label_of t.s.layout t.s.bytes.now) t.es.now rows.masks rows.words t.gathered c.args.r.0 c.args.l _ _ _ c.role_place-p.ensures.0 c.from_of-from.ensures.0 c.place_no-i.ensures.0
     rows.counts t.counted _ (sum_done _ c.loop-j.j _ c.loop-j.invariant.1 _ (omega arith) (omega arith))

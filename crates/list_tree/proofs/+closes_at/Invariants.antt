@@ -1,4 +1,0 @@
-use Rattle.list_tree.proofs.+closes_at.Given as goal
-
-abbrev pub decreases-closes_at : goal.decreases-closes_at
-decreases-closes_at l = l.left
