@@ -1,7 +1,10 @@
 // What the tests and the public functions answer.
 #![tactic(auto)]
 
-ghost use Rattle.std.specs.Prelude.{◌≡◌};
+ghost use Rattle.std.specs.Prelude.{◌≡◌, ℕ, Result};
+ghost use Rattle.std.proofs.Math.Option.{Option, none};
+ghost use Rattle.logic.specs.Refusals.{refuse, refuse_from};
+ghost use Rattle.answers.specs.Answers.{refusal_of};
 ghost use Rattle.answers.specs.Reasons.{number_of, refused};
 
 // What the tests refuse for, by their numbers in the table of refusals.
@@ -89,4 +92,16 @@ pub enum Judgement {
 pub enum Reading {
     Holds,
     Fails,
+}
+
+// The refusal of the first of `n` records that the test refuses.
+pub fn first_refused<F: Fn(u8) -> Result<(), Refusal>>(n: u8, test: F) -> Result<(), Refusal>
+    requires { F.IsAlwaysCallable test }
+    ensures { (p : ℕ → Option ℕ) → ((i : ℕ) (r : Result (Unit {0}) Refusal) → F.post test i r → refusal_of r ≡ refuse i (p i) none)
+        → refusal_of result ≡ refuse_from p n 0 none }
+{
+    for i in 0..n {
+        test(i)?;
+    }
+    Ok(())
 }

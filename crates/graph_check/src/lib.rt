@@ -7,9 +7,9 @@ ghost use Rattle.logic.specs.Refusals.{refuse, refuse_from};
 ghost use Rattle.labels.specs.Labels.{value_of};
 ghost use Rattle.answers.specs.Answers.{refusal_of};
 ghost use Rattle.nodes.specs.NodeSteps.{root_set};
-ghost use Rattle.graph_check.specs.GraphSteps.{form_code, form_of, need_of, record_with, record_code, graph_code};
+ghost use Rattle.graph_check.specs.GraphSteps.{form_code, form_of, need_of, record_with, records_with, record_code, graph_code};
 
-use answers::{Reason, Refusal};
+use answers::{Reason, Refusal, first_refused};
 use edges::edges_ok;
 use evidence::{Head, Stored, layout_of, node_form_ok, read_head};
 use fillers::{Record, test_fillers};
@@ -35,26 +35,28 @@ fn need_of(first: Label, later: Label, i: u8) -> Label
 }
 
 impl<'a> Graph<'a> {
-    // Test 10 of record `i`.
+    // Whether record `i` has the form of a node.
     fn form_ok(&self, i: u8) -> bool
         ensures { result ≡ form_code self.now.s.layout self.now.s.bytes.now i }
     {
-        node_form_ok(
-            read2(self.s.bytes, 2 + 4 * (i as usize) + 2),
-            self.s.layout,
-        )
+        node_form_ok(read2(self.s.bytes, 2 + 4 * (i as usize) + 2), self.s.layout)
+    }
+
+    // Test 10 of record `i`.
+    fn test_form(&self, i: u8) -> Result<(), Refusal>
+        ensures { refusal_of result ≡ refuse i (form_of self.now.s.layout self.now.s.bytes.now i) none }
+    {
+        if !self.form_ok(i) {
+            return Err(Reason::Form.at(i));
+        }
+        Ok(())
     }
 
     // Test 10 of the records.
     fn test_forms(&self) -> Result<(), Refusal>
         ensures { refusal_of result ≡ refuse_from (form_of self.now.s.layout self.now.s.bytes.now) self.now.n 0 none }
     {
-        for i in 0..self.n {
-            if !self.form_ok(i) {
-                return Err(Reason::Form.at(i));
-            }
-        }
-        Ok(())
+        first_refused(self.n, |i| self.test_form(i))
     }
 
     // Rules 11 to 15 of record `i`, which is to have `need`, with the table of sources.
@@ -88,6 +90,21 @@ impl<'a> Graph<'a> {
         test_fillers(o.concepts, src, &record)
     }
 
+    // The same of record `i`, where record 0 is to have `first` and the others `later`.
+    fn test_needing(
+        &self,
+        src: &[u64; MOST_ENTRIES as usize],
+        first: Label,
+        later: Label,
+        i: u8,
+    ) -> Result<(), Refusal>
+        ensures { let g = self.now in let o = g.o.now in
+            let code = records_with o.masks o.count o.concepts.now src.now (value_of first) (value_of later) g.s.layout g.s.bytes.now g.n in
+            refusal_of result ≡ refuse i (code i) none }
+    {
+        self.test_record(src, i, need_of(first, later, i))
+    }
+
     // Rules 11 to 15 of the records, of which the first is to have `want`.
     fn test_records(&self, want: Label) -> Result<(), Refusal>
         ensures { let g = self.now in let o = g.o.now in
@@ -97,10 +114,7 @@ impl<'a> Graph<'a> {
         let src = sources(&self.o.masks, self.o.concepts);
         let first = required(self.o.query, want);
         let later = required(self.o.query, empty());
-        for i in 0..self.n {
-            self.test_record(&src, i, need_of(first, later, i))?;
-        }
-        Ok(())
+        first_refused(self.n, |i| self.test_needing(&src, first, later, i))
     }
 }
 

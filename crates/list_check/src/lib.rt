@@ -13,7 +13,7 @@ ghost use Rattle.list_form.specs.ListForm.{bytes_at};
 ghost use Rattle.rows.specs.HeldRows.{without_roles, rows_held};
 ghost use Rattle.list_check.specs.CheckSteps.{form_code, form_of, count_code, step_code, record_code, end_code, records_code, list_code};
 
-use answers::{Reason, Refusal};
+use answers::{Reason, Refusal, first_refused};
 use cites::within_one;
 use evidence::{Head, Stored, layout_of, read_head};
 use intake::Opening;
@@ -33,23 +33,28 @@ struct List<'a> {
 }
 
 impl<'a> List<'a> {
-    // Test 10 of record `i`.
+    // Whether record `i` has the form of a step.
     fn form_ok(&self, i: u8) -> bool
         ensures { result ≡ form_code self.now.s.layout.marks (edges_part self.now.s.layout self.now.s.bytes.now) i }
     {
         step_form(self.s.rest(i))
     }
 
+    // Test 10 of record `i`.
+    fn test_form(&self, i: u8) -> Result<(), Refusal>
+        ensures { refusal_of result ≡ refuse i (form_of self.now.s.layout.marks (edges_part self.now.s.layout self.now.s.bytes.now) i) none }
+    {
+        if !self.form_ok(i) {
+            return Err(Reason::Form.at(i));
+        }
+        Ok(())
+    }
+
     // Test 10 of the `n` records.
     fn test_forms(&self, n: u8) -> Result<(), Refusal>
         ensures { refusal_of result ≡ refuse_from (form_of self.now.s.layout.marks (edges_part self.now.s.layout self.now.s.bytes.now)) n 0 none }
     {
-        for i in 0..n {
-            if !self.form_ok(i) {
-                return Err(Reason::Form.at(i));
-            }
-        }
-        Ok(())
+        first_refused(n, |i| self.test_form(i))
     }
 
     // Tests 18 and 19 of the counting step `ds` of record `i` with the label `x`, which has these rows.
@@ -116,10 +121,7 @@ impl<'a> List<'a> {
         ensures { refusal_of result ≡ refuse_from (record_code self.now.s.layout.marks self.now.o.now.masks self.now.o.now.concepts.now self.now.o.now.query.now
             (label_of self.now.s.layout self.now.s.bytes.now) (edges_part self.now.s.layout self.now.s.bytes.now)) n 0 none }
     {
-        for i in 0..n {
-            self.test_record(i)?;
-        }
-        Ok(())
+        first_refused(n, |i| self.test_record(i))
     }
 
     // Test 20: the label of record `last` holds nothing but literal 0 and what is wanted.

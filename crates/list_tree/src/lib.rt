@@ -61,15 +61,13 @@ impl Way {
         }
     }
 
-    // The way with one limit more.
-    fn with(&self, x: Limit) -> Way
-        requires { self.now.len < 14 }
-        ensures { (result.limits ≡ set self.now.limits self.now.len x) × (result.len ≡ self.now.len + 1) }
+    // One limit more. In place: a way that is handed back costs each level of a tree a second array.
+    fn push(&mut self, x: Limit)
+        requires { self.old.len < 14 }
+        ensures { (self.new.limits ≡ set self.old.limits self.old.len x) × (self.new.len ≡ self.old.len + 1) }
     {
-        let mut path = *self;
-        path.limits[self.len as usize] = x;
-        path.len = self.len + 1;
-        path
+        self.limits[self.len as usize] = x;
+        self.len += 1;
     }
 }
 
@@ -159,7 +157,8 @@ impl<'a> Tree<'a> {
                 if left == 0 {
                     return None;
                 }
-                let mut path = way.with(self.low_half(at));
+                let mut path = *way;
+                path.push(self.low_half(at));
                 let next = self.closes_at(&path, left - 1, at + 4)?;
                 // In the place of the first half, so that a level holds one array.
                 path.limits[way.len as usize] = self.high_half(at);
@@ -176,7 +175,8 @@ impl<'a> Tree<'a> {
         ensures { result ≡ end_of (closed_in self.now.ds.now self.now.k (marked self.now.marks.now) 8 self.now.k
             (limits_held self.now.k way.now.limits self.now.k) at) }
     {
-        let mut path = way.with(self.low_half(at));
+        let mut path = *way;
+        path.push(self.low_half(at));
         let next = self.closes_at(&path, 7, at + 4)?;
         path.limits[way.len as usize] = self.high_half(at);
         self.closes_at(&path, 7, next)

@@ -49,8 +49,8 @@ pub fn set_where<F: Fn(u8) -> bool>(n: u8, test: F) -> u64
     ensures { (p : ℕ → Bool) → ((i : ℕ) (b : Bool) → F.post test i b → b ≡ p i) → n ≤ 64 → result ≡ set_of n p }
 {
     let mut out: u64 = 0;
-    for i in 0..n {
-        out = out.put(i as usize, test(i));
+    for i in 0..n as usize {
+        out = out.put(i, test(i as u8));
     }
     out
 }

@@ -1,16 +1,7 @@
-use mathlib.Core.Path.{◌∙◌, sym}
-use native.Mathlib.Omega.{arith}
-use Rattle.logic.specs.Refusals.{test_passes, test_refuses, records_start, records_on, records_stop, records_end}
+use Rattle.std.proofs.Common.{rules}
+use Rattle.evidence.specs.Evidence.{edges_part}
+use Rattle.list_check.specs.CheckSteps.{form_of}
 use Rattle.list_check.proofs.List.test_forms.Goals as goal
 
-pub loop-i-init : goal.loop-i-init
-loop-i-init c = records_start _ _ _
-
-pub returns-then-not-form_ok : goal.returns-then-not-form_ok
-returns-then-not-form_ok c = rw c.at.ensures (sym (records_stop _ _ _ c.loop-i.i _ (omega arith) (test_refuses _ 10 _ (sym c.form_ok.ensures ∙ c.if-not-form_ok.true))) ∙ c.loop-i.invariant)
-
-pub loop-i-preserved : goal.loop-i-preserved
-loop-i-preserved c = sym (records_on _ _ _ c.loop-i.i (omega arith) (test_passes _ 10 _ (sym c.form_ok.ensures ∙ c.if-not-form_ok.false))) ∙ c.loop-i.invariant
-
 pub returns : goal.returns
-returns c = sym (records_end _ _ _ c.loop-i.i (omega arith)) ∙ c.loop-i.invariant
+returns c = let g = c.args.self.now in c.first_refused.ensures (form_of g.s.layout.marks (edges_part g.s.layout g.s.bytes.now)) (λ i r e. search rules)
