@@ -1,14 +1,15 @@
 // What the rows of a counting step give to its cells, found once a step, and the label that is known of a cell by them.
 #![tactic(auto)]
 
-ghost use Rattle.std.specs.Prelude.{◌≡◌, ◌&&◌, cond, true, ℕ, ◌<◌, eqb, length};
+ghost use Rattle.std.specs.Prelude.{◌≡◌, ◌&&◌, cond, true, ℕ, ◌<◌, ◌≤◌, eqb, length, get_or};
 ghost use Rattle.logic.specs.Bounded.{any_below};
 ghost use Rattle.logic.specs.Sets.{has};
 ghost use Rattle.labels.specs.Labels.{most_entries, value_of, label_with};
-ghost use Rattle.rows.specs.HeldRows.{given, held_at};
+ghost use Rattle.rows.specs.HeldRows.{given, held_at, first_at};
 ghost use Rattle.sources.specs.Sources.{has_above};
 ghost use Rattle.cell_labels.specs.CellShows.{Puts, passes, carried_at};
-ghost use Rattle.cell_labels.specs.CellRows.{only_if, Masks, Labels, mask_at, Grown, gathered_by, entry_shows, shown_by, denied_by, bit_of, above_of};
+ghost use Rattle.cell_labels.specs.CellRows.{Masks, Labels, mask_at, Grown, gathered_by};
+ghost use Rattle.cell_labels.specs.CellRows.{entry_shows, shown_by, denied_by, bit_of, above_of};
 
 use labels::{Label, empty, holds, join, only, put};
 use nodes::opposite;
@@ -40,36 +41,21 @@ fn mask(x: u16) -> u16
     x
 }
 
-// What a row gives to the cells, if it is `there`: the ancestors of its role,
-fn above_by(m: &[u16; 49], row: Row, there: bool) -> u16
-    ensures { (result ≡ only_if there (above_of m.now (given row))) × (result < 65536) }
+// What each row gives, and `none` behind the last.
+fn of_rows<T: Copy, F: Fn(Row) -> T>(rows: &Rows, none: T, give: F) -> [T; 6]
+    requires { F.IsAlwaysCallable give }
+    ensures { (length result ≡ 6) × ((d : T) (i : ℕ) → i < 6
+        → (i < rows.now.count → F.post give (first_at rows.now.held rows.now.count i) (get_or result i d))
+        × (rows.now.count ≤ i → get_or result i d ≡ none)) }
 {
-    if there {
-        mask(m[(row.role.0 % 16) as usize])
-    } else {
-        0
-    }
-}
-
-// the mask of its role alone, of none if the role is past the masks,
-fn own_by(row: Row, there: bool) -> u16
-    ensures { result ≡ only_if there (bit_of (given row)) }
-{
-    if there { role_bit(row.role.0) } else { 0 }
-}
-
-// the opposite of its qualifier,
-fn against_by(row: Row, there: bool) -> u8
-    ensures { result ≡ only_if there (denied_by (given row)) }
-{
-    if there { opposite(row.qualifier) } else { 0 }
-}
-
-// and its qualifier.
-fn qualified_by(row: Row, there: bool) -> Label
-    ensures { value_of result ≡ only_if there (label_with 0 row.qualifier) }
-{
-    if there { only(row.qualifier) } else { empty() }
+    array::from_fn(|i| {
+        let i = i as u8;
+        if i < rows.count {
+            give(row_at(rows, i))
+        } else {
+            none
+        }
+    })
 }
 
 // The ancestors of the role of each row.
@@ -77,40 +63,28 @@ pub fn above_of(m: &[u16; 49], rows: &Rows) -> [u16; 6]
     ensures { Masks (λ i. above_of m.now (given (held_at rows.now.held i))) rows.now.count result
         × ((i : ℕ) → i < 6 → mask_at result i < 65536) }
 {
-    array::from_fn(|i| {
-        let i = i as u8;
-        above_by(m, row_at(rows, i), i < rows.count)
-    })
+    of_rows(rows, 0, |row| mask(m[(row.role.0 % 16) as usize]))
 }
 
-// The mask of the role of each row.
+// The mask of the role of each row, of none if the role is past the masks.
 pub fn own_of(rows: &Rows) -> [u16; 6]
     ensures { Masks (λ i. bit_of (given (held_at rows.now.held i))) rows.now.count result }
 {
-    array::from_fn(|i| {
-        let i = i as u8;
-        own_by(row_at(rows, i), i < rows.count)
-    })
+    of_rows(rows, 0, |row| role_bit(row.role.0))
 }
 
-// What each row shows of other cells that have its role.
+// What each row shows of other cells that have its role: the opposite of its qualifier.
 pub fn against_of(rows: &Rows) -> [u8; 6]
     ensures { Masks (λ i. denied_by (given (held_at rows.now.held i))) rows.now.count result }
 {
-    array::from_fn(|i| {
-        let i = i as u8;
-        against_by(row_at(rows, i), i < rows.count)
-    })
+    of_rows(rows, 0, |row| opposite(row.qualifier))
 }
 
 // The qualifier of each row.
 fn qualified_of(rows: &Rows) -> [Label; 6]
     ensures { Labels (λ i. label_with 0 (held_at rows.now.held i).qualifier) rows.now.count result }
 {
-    array::from_fn(|i| {
-        let i = i as u8;
-        qualified_by(row_at(rows, i), i < rows.count)
-    })
+    of_rows(rows, empty(), |row| only(row.qualifier))
 }
 
 // What "every t l", entry `f`, shows of a cell that has the role: `l` if the label `x` holds the entry,
@@ -159,7 +133,8 @@ fn with_every(
 // The entries are walked once, not once a row; for each "every" of a transitive role once more (`is_carried`).
 pub fn shown_of(cs: &[u8], m: &[u16; 49], x: Label, rows: &Rows, above: [u16; 6]) -> [Label; 6]
     ensures { Masks (λ i. above_of m.now (given (held_at rows.now.held i))) rows.now.count above
-        → Labels (λ i. shown_by cs.now m.now (value_of x) (carried_at cs.now m.now (value_of x)) (given (held_at rows.now.held i))) rows.now.count result }
+        → Labels (λ i. shown_by cs.now m.now (value_of x) (carried_at cs.now m.now (value_of x)) (given (held_at rows.now.held i)))
+        rows.now.count result }
 {
     let mut out = qualified_of(rows);
     for f in 0..entry_count(cs) {

@@ -1,1 +1,2 @@
 pub mod ClaimSteps
+pub mod ClaimEnds

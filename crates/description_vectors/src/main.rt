@@ -32,6 +32,7 @@ fn run_file(rt: &(impl Files + Print + Eprint), name: &str) -> io::Result<()> {
         Ok(file) => file,
         Err(e) => return eprintln!(rt; "{name}: {e}"),
     };
+    // A fixed array, the longest file's and more: no heap is a rule of the project.
     let mut space = [0; 65536];
     let n = read_full(&mut file, &mut space)?;
     // A file that fills the buffer may go on: its other rows would not be run. No call failed, and the message says so.

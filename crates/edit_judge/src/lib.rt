@@ -69,7 +69,8 @@ pub fn put_inclusion(st: &mut [u8], r: RoleNo, p: RoleNo) -> Result<(), Refusal>
     Ok(())
 }
 
-// 5, 6 and 7 of the last of the entries.
+// 5, 6 and 7 of the last of the entries. `n` stands beside the table: the records are always all 16, as `role_table` promises, and `n` of
+// them are the description's.
 fn judge_last(cs: &[u8], e: EntryNo, table: &[Role; 16], n: u8) -> Result<(), Refusal>
     ensures { result ≡ last_test cs.now e.0 table.now (up_to 16 n) }
 {

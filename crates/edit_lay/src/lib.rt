@@ -28,7 +28,7 @@ pub fn lay_parent(buf: &mut [u8], at: usize, p: RoleNo)
         return;
     }
     let transitive = byte(buf, at);
-    let parents = mask2(buf, at + 1).put((p.0 % 16) as usize, true);
+    let parents = mask2(buf, at + 1).put(p.0 % 16, true);
     lay_role(buf, at, transitive, parents);
 }
 

@@ -15,7 +15,8 @@ pub(crate) struct Row<'a, P> {
     pub(crate) number: u64,
 }
 
-// The state after items, and whether each answered as the row says.
+// The state after items, and whether each answered as the row says. The flag stands beside the state: a row is played on to its end after a
+// wrong answer, and each that follows is held to the row too.
 #[derive(Clone, Copy)]
 struct Ended {
     state: Editor,

@@ -2,6 +2,7 @@
 use answers::Refusal;
 use std::fmt::Display;
 use std::{fmt, io};
+use vector_rows::refusals::Refusals;
 use vector_rows::{count, field, number};
 
 // Why an item did nothing: the editor refused it, or it cannot be played.
@@ -18,11 +19,11 @@ impl From<Refusal> for Fault {
 }
 
 impl Fault {
-    // The number by which a row names it: a refusal's, or one that no refusal has.
-    fn number(self) -> u8 {
+    // The number by which a row names it, if it can: a refusal's.
+    fn number(self) -> Option<u8> {
         match self {
-            Fault::Refused(r) => r.reason.number(),
-            Fault::Unplayable => 255,
+            Fault::Refused(r) => Some(r.reason.number()),
+            Fault::Unplayable => None,
         }
     }
 
@@ -52,10 +53,10 @@ impl From<Result<usize, Fault>> for Answer {
 }
 
 impl Answer {
-    // What a row says of it first: 0, or the number of a fault.
-    fn number(self) -> u8 {
+    // What a row says of it first: 0, or the number of a fault; of what cannot be played it says nothing.
+    fn number(self) -> Option<u8> {
         match self.written {
-            Ok(_) => 0,
+            Ok(_) => Some(0),
             Err(f) => f.number(),
         }
     }
@@ -75,7 +76,7 @@ impl Answer {
     pub(crate) fn agrees(self, want: &[u8]) -> bool {
         let said = field(want, 0, b':');
         let digits = digits_of(want).len();
-        let number = said.len() != 0 && number(said) == usize::from(self.number());
+        let number = said.len() != 0 && self.number().map(usize::from) == Some(number(said));
         let size = digits / 2 == self.size() && digits % 2 == 0;
         number && size && self.place() == 0 && self.clean
     }
@@ -83,13 +84,15 @@ impl Answer {
 
 impl Display for Answer {
     fn fmt<W: fmt::Write>(&self, f: &mut fmt::Formatter<W>) -> fmt::Result {
-        write!(
-            f,
-            "answered {} {}, wrote {} bytes",
-            self.number(),
-            self.place(),
-            self.size()
-        )?;
+        match self.number() {
+            Some(number) => write!(
+                f,
+                "answered {number} {}, wrote {} bytes",
+                self.place(),
+                self.size()
+            )?,
+            None => f.write_str("could not be played")?,
+        }
         if self.clean {
             return Ok(());
         }
@@ -107,21 +110,22 @@ pub(crate) fn digits_of(want: &[u8]) -> &[u8] {
 #[derive(Drop)]
 pub(crate) struct Tally {
     done: [u64; 2],
-    refusals: [u64; 32],
+    refusals: Refusals,
 }
 
 impl Tally {
     pub(crate) fn new() -> Tally {
         Tally {
             done: [0; 2],
-            refusals: [0; 32],
+            refusals: Refusals::new(),
         }
     }
 
     pub(crate) fn add(&mut self, a: Answer) {
         match a.written {
             Ok(size) => count(&mut self.done, usize::from(size != 0)),
-            Err(f) => count(&mut self.refusals, usize::from(f.number() % 32)),
+            Err(Fault::Refused(r)) => self.refusals.add(usize::from(r.reason.number())),
+            Err(Fault::Unplayable) => {}
         }
     }
 
@@ -137,11 +141,6 @@ impl Tally {
     // How often each answer came, those of no row left out.
     pub(crate) fn print(&self, rt: &impl Print) -> io::Result<()> {
         self.print_done(rt)?;
-        for (number, n) in self.refusals.iter().enumerate() {
-            if *n != 0 {
-                println!(rt; "REFUSED {number}: {n}")?;
-            }
-        }
-        Ok(())
+        print!(rt; "{}", self.refusals)
     }
 }

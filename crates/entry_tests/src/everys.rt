@@ -24,7 +24,7 @@ fn is_below(x: Role, r: RoleNo) -> bool
 fn with_role(a: [u16; 16], i: u8, x: Role) -> [u16; 16]
     ensures { (r : ℕ) → r < 16 → get_or result r 0 ≡ put_in (get_or a r 0) i (ltb i 16 && below_is x r) }
 {
-    array::from_fn(|r| a[r].put(i as usize, is_below(x, RoleNo(r as u8))))
+    array::from_fn(|r| a[r].put(i, is_below(x, RoleNo(r as u8))))
 }
 
 // For each role the transitive roles that are included in it, of the first `n` records. The table is lent whole beside their number, and
@@ -47,7 +47,7 @@ fn lower_roles(t: &[Role; 16], n: u8) -> [u16; 16]
 fn with_every(m: u16, g: Fields, l: u8) -> u16
     ensures { result ≡ every_put m g l }
 {
-    m.put(g.role as usize, (g.kind == 3) & (g.first == l))
+    m.put(g.role, (g.kind == 3) & (g.first == l))
 }
 
 // For each literal `l` below 128, the roles T that there is an entry "every T l" of.

@@ -115,6 +115,7 @@ fn run_file<F: Fn(&[u8]) -> Answer>(
         Ok(file) => file,
         Err(e) => return eprintln!(rt; "{name}: {e}"),
     };
+    // A fixed array, the longest file's and more: no heap is a rule of the project.
     let mut space = file_space();
     let n = read_full(&mut file, &mut space)?;
     let mut tally = Tally::new();

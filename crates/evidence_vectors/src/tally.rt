@@ -3,6 +3,7 @@ use answers::{Judgement, Reading, Refusal, Verdict};
 use parts::byte;
 use std::fmt::Display;
 use std::{fmt, io};
+use vector_rows::refusals::Refusals;
 use vector_rows::{count, field, number};
 
 // The word of an answer, in the order in which the counts are printed.
@@ -35,7 +36,8 @@ impl Display for Word {
     }
 }
 
-// An answer: its word, then a refusal's number and record, or a line's length.
+// An answer: its word, then a refusal's number and record, or a line's length. A word and two numbers for each, as the rows say an answer and
+// as it is printed: with a case for each the numbers that a row gives to the other words would be tested apart, and written out again.
 #[derive(Clone, Copy, PartialEq, Eq)]
 pub(crate) struct Answer {
     pub(crate) word: Word,
@@ -157,7 +159,7 @@ pub(crate) fn expected(text: &[u8]) -> Option<Answer> {
 #[derive(Drop)]
 pub(crate) struct Tally {
     words: [u64; 8],
-    refusals: [u64; 32],
+    refusals: Refusals,
 }
 
 // The words but REFUSED.
@@ -176,13 +178,13 @@ impl Tally {
     pub(crate) fn new() -> Tally {
         Tally {
             words: [0; 8],
-            refusals: [0; 32],
+            refusals: Refusals::new(),
         }
     }
 
     pub(crate) fn add(&mut self, a: Answer) {
         if a.word == Word::Refused {
-            count(&mut self.refusals, a.number);
+            self.refusals.add(a.number);
         } else {
             count(&mut self.words, a.word as usize);
         }
@@ -200,11 +202,6 @@ impl Tally {
 
     pub(crate) fn print(&self, rt: &impl Print) -> io::Result<()> {
         self.print_words(rt)?;
-        for (number, n) in self.refusals.iter().enumerate() {
-            if *n != 0 {
-                println!(rt; "REFUSED {number}: {n}")?;
-            }
-        }
-        Ok(())
+        print!(rt; "{}", self.refusals)
     }
 }

@@ -50,7 +50,7 @@ fn name_mask(cs: &[u8], x: Label) -> u64
 {
     let mut out: u64 = 0;
     for e in 0..entry_count(cs) {
-        out = out.put(e as usize, name_in(cs, x, EntryNo(e)));
+        out = out.put(e, name_in(cs, x, EntryNo(e)));
     }
     out
 }
@@ -92,7 +92,7 @@ fn transitive_roles(a: &[u16; 49], roles: u8) -> u16
 {
     let mut out: u16 = 0;
     for r in 0..up_to(16, roles as usize) {
-        out = out.put(r as usize, a[(16 + r) as usize].has(r));
+        out = out.put(r, a[(16 + r) as usize].has(r));
     }
     out
 }

@@ -1,5 +1,5 @@
-// Test 18 of a counting step: whether the roles of a cell bar it; if not, what every filler of it has, and that the record cited for it has
-// no more.
+// Test 18 of a counting step: whether the roles of a cell bar it; if not, what every filler of it has, and that the record cited for it
+// has no more.
 #![tactic(auto)]
 
 ghost use Rattle.std.specs.Prelude.{◌≡◌, cond, not, false, eqb, is_ok};
@@ -98,9 +98,9 @@ impl<'a> CellTest<'a> {
 
     // Test 18, cell by cell, up to the first that fails, at which the walk is an `Err`. The roles are carried from each cell to the next.
     fn walk_cells(&self, rows: &Rows, ds: &[u8]) -> Result<Walk, Walk>
-        ensures { Tally (up_to 6 rows.now.count) (cell_fine self.now.s.layout.marks self.now.cs.now self.now.m.now (label_of self.now.s.layout self.now.s.bytes.now)
-            (value_of self.now.x) (rows_held rows.now.held (up_to 6 rows.now.count)) ds.now (up_to 6 rows.now.count))
-            (is_ok result) (ended result).cells (ended result).changes }
+        ensures { Tally (up_to 6 rows.now.count) (cell_fine self.now.s.layout.marks self.now.cs.now self.now.m.now
+            (label_of self.now.s.layout self.now.s.bytes.now) (value_of self.now.x) (rows_held rows.now.held (up_to 6 rows.now.count)) ds.now
+            (up_to 6 rows.now.count)) (is_ok result) (ended result).cells (ended result).changes }
     {
         let n = up_to(6, rows.count as usize);
         let end = cell_count(rows.count) as u8;

@@ -135,7 +135,8 @@ impl<'a> Record<'a> {
         )
     }
 
-    // Whether entry `e` is a "both" and the labels of records `c` and `d` lie within its own with the opposite of the first literal, of the second.
+    // Whether entry `e` is a "both" and the labels of records `c` and `d` lie within its own with the opposite of the first literal, of
+    // the second.
     fn sides_within(&self, e: EntryNo, c: u8, d: u8) -> bool
         ensures { result ≡ is_both (λ a b. within (label_of self.now.s.layout self.now.s.bytes.now c) (adding (value_of self.now.x) (opposite a))
             && within (label_of self.now.s.layout self.now.s.bytes.now d) (adding (value_of self.now.x) (opposite b)))

@@ -61,7 +61,7 @@ impl Way {
         }
     }
 
-    // One limit more. In place: a way that is handed back costs each level of a tree a second array.
+    // Puts a limit behind those that are there.
     fn push(&mut self, x: Limit)
         requires { self.old.len < 14 }
         ensures { (self.new.limits ≡ set self.old.limits self.old.len x) × (self.new.len ≡ self.old.len + 1) }

@@ -21,7 +21,7 @@ module _ (mark : ℕ) where
   first_of (x ∷ []) h = last x (eqb x mark)
   first_of (x ∷ y ∷ zs) h = grown x (eqb x mark) (y ∷ zs) (until mark (y ∷ zs)) (first_of (y ∷ zs) (omega arith))
 
-  take_until : (xs : List ℕ) → take (length (until mark xs)) xs ≡ until mark xs
+  pub take_until : (xs : List ℕ) → take (length (until mark xs)) xs ≡ until mark xs
   unfolding until
   take_until [] = refl
   take_until (x ∷ xs) = go (eqb x mark) (take_until xs)

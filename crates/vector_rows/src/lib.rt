@@ -1,6 +1,8 @@
 // Rows of vectors: lines and fields that end at a mark, bytes in hexadecimal digits, numbers in decimal ones.
 #![tactic(auto)]
 
+pub mod refusals;
+
 ghost use Rattle.std.specs.Prelude.{◌≡◌, ◌+◌, ◌%◌, ◌<◌, ◌≤◌, max, eqb, length, drop, replicate};
 ghost use Rattle.parts.specs.Numbers.{byte_at};
 ghost use Rattle.vector_rows.specs.Rows.{digit_of, byte_said, bytes_said, Decoded, until, field_of, number_from, longest_file, counted};

@@ -32,8 +32,16 @@ pub trait Bits: Copy {
         ensures { result ≡ not (eqb (bit_and (set self) (set y)) 0) };
 
     // The set with `i` put in, if `asked` and if there is a place for it.
-    fn put(self, i: usize, asked: bool) -> Self
+    fn put(self, i: u8, asked: bool) -> Self
         ensures { set result ≡ put_in (set self) i (ltb i width && asked) };
+}
+
+// The set with `i` put in, if `b`: for numbers of any size. A `Bits::put` of them was tried: with it the reading of a line that counts takes
+// 3.6 in a hundred more.
+pub fn put(x: u64, i: usize, b: bool) -> u64
+    ensures { result ≡ put_in x i (ltb i 64 && b) }
+{
+    if i < 64 { x.put(i as u8, b) } else { x }
 }
 
 // The set with each number one higher, and with 0 if `b`; 63 goes out.
@@ -49,8 +57,8 @@ pub fn set_where<F: Fn(u8) -> bool>(n: u8, test: F) -> u64
     ensures { (p : ℕ → Bool) → ((i : ℕ) (b : Bool) → F.post test i b → b ≡ p i) → n ≤ 64 → result ≡ set_of n p }
 {
     let mut out: u64 = 0;
-    for i in 0..n as usize {
-        out = out.put(i, test(i as u8));
+    for i in 0..n {
+        out = out.put(i, test(i));
     }
     out
 }

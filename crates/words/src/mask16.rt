@@ -23,7 +23,7 @@ impl Bits for u16 {
         self & y != 0
     }
 
-    fn put(self, i: usize, asked: bool) -> u16 {
+    fn put(self, i: u8, asked: bool) -> u16 {
         if (i < 16) & asked {
             self | (1 << (i % 16))
         } else {

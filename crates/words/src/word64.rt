@@ -22,7 +22,7 @@ impl Bits for u64 {
         self & y != 0
     }
 
-    fn put(self, i: usize, asked: bool) -> u64 {
+    fn put(self, i: u8, asked: bool) -> u64 {
         if (i < 64) & asked {
             self | (1 << (i % 64))
         } else {

@@ -13,9 +13,6 @@ pub returns-then-not-are_roles : goal.returns-then-not-are_roles
 returns-then-not-are_roles c = refused_judges _ c.args.st.now is.Role _ c.whole.ensures (omega arith) (λ T rest l. inclusion_past c.args.st.now c.args.r.0 c.args.p.0
     c.count_roles-n.result c.count_roles-n.ensures.0 T rest l (sym c.are_roles.ensures ∙ c.if-not-are_roles.true))
 
-pub records_with-table-requires : goal.records_with-table-requires
-records_with-table-requires c = c.roles_of.ensures.1
-
 pub returns-then-not-simples_ok : goal.returns-then-not-simples_ok
 returns-then-not-simples_ok c = refused_judges _ c.args.st.now is.Simple _ c.whole-then-not-simples_ok.ensures (omega arith) (λ T rest l. inclusion_5 c.args.st.now c.args.r.0 c.args.p.0
     c.count_roles-n.result c.count_roles-n.ensures.0 T rest l c.roles_of.result.now c.concepts_of-cs.result.now

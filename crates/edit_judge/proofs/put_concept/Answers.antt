@@ -5,7 +5,7 @@ use Rattle.laying.specs.Laying.{laid_fits}
 use Rattle.edit_lay.specs.Lays.{six_bytes}
 use Rattle.edit_state.specs.RoleLaws.{changed_beyond}
 use Rattle.edit_state.specs.EditLaws.{short_edits, done_edits}
-use Rattle.edit_judge.specs.Judging.{judged_edits, allowed}
+use Rattle.edit_judge.specs.Judging.{allowed}
 use Rattle.edit_judge.proofs.ConceptLaws.{concept_put}
 use Rattle.edit_state.specs.Lent.{concepts_from, state_bytes}
 use native.Mathlib.Omega.{arith}
@@ -15,15 +15,6 @@ use Rattle.edit_judge.proofs.put_concept.Goals as goal
 
 pub returns-in_err-enough : goal.returns-in_err-enough
 returns-in_err-enough c = let h = c.in_err-enough.ensures.short in short_edits _ _ _ (search rules) h.1
-
-pub returns-in_err-judge_concept : goal.returns-in_err-judge_concept
-returns-in_err-judge_concept c =
-    judged_edits _ _ _ _ (omega (arith, c.in_ok-enough.ensures.whole)) (search rules) c.in_err-judge_concept.ensures
-
-pub shape_of-st : goal.shape_of-st
-shape_of-st c = let q = (goal.at.shape_of-st c).Start
-    in
-    omega (arith, c.in_ok-enough.ensures.whole, length-set q.args.st.now 1 (c.count_entries-e.result + 1))
 
 pub returns : goal.returns
 returns c = let w =

@@ -4,7 +4,7 @@ use lib.ListN.{drop}
 use Rattle.laying.specs.Laying.{laid_fits}
 use Rattle.edit_state.specs.PlaceLaws.{laid_beyond}
 use Rattle.edit_state.specs.EditLaws.{short_edits, done_edits}
-use Rattle.edit_judge.specs.Judging.{judged_edits, allowed}
+use Rattle.edit_judge.specs.Judging.{allowed}
 use Rattle.edit_judge.specs.InclusionLaws.{inclusion_put}
 use Rattle.edit_state.specs.Lent.{roles_from, state_bytes}
 use native.Mathlib.Omega.{arith}
@@ -14,10 +14,6 @@ use Rattle.edit_judge.proofs.put_inclusion.Goals as goal
 
 pub returns-in_err-enough : goal.returns-in_err-enough
 returns-in_err-enough c = let h = c.in_err-enough.ensures.short in short_edits _ _ _ (search rules) h.1
-
-pub returns-in_err-judge_inclusion : goal.returns-in_err-judge_inclusion
-returns-in_err-judge_inclusion c =
-    judged_edits _ _ _ _ (omega (arith, c.in_ok-enough.ensures.whole)) (search rules) c.in_err-judge_inclusion.ensures
 
 pub returns : goal.returns
 returns c = let w =

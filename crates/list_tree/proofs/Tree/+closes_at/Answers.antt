@@ -22,11 +22,11 @@ overflow_add-at t c = let a = c.args in let o = a.self.now in let w = a.way.now 
     let r = split_room o.ds.now w.len a.at f.0 in omega arith
 
 pub returns-in_err-next-in-Splitting : goal.returns-in_err-next-in-Splitting
-returns-in_err-next-in-Splitting t c = let a = c.args in let o = a.self.now in let w = a.way.now in let q = c.push in
-    let p = put_first w.limits q.new.self.limits w.len _ q.ensures.0 (omega (arith, c.requires.2, c.if-left-eq0.false)) c.requires.3 _ c.low_half.ensures in
+returns-in_err-next-in-Splitting t c = let a = c.args in let o = a.self.now in let w = a.way.now in let q = c.push.new.self in let e = c.push.ensures in
+    let p = put_first w.limits q.limits w.len _ e.0 (omega (arith, c.requires.2, c.if-left-eq0.false)) c.requires.3 _ c.low_half.ensures in
     rw c.from_residual-in_err-next-in-Splitting.ensures
     (closed_first o.ds.now o.k (marked o.marks.now) w.len (limits_held o.k w.limits w.len) a.at a.left (sym (ap Some c.in-Splitting.is) ∙ c.in_ok-end.ensures.0)
-    c.if-left-eq0.false (limits_held o.k q.new.self.limits (w.len + 1)) (p.held o.k c.requires.1) (rw q.ensures.1 at c.in_err-next-in-Splitting.ensures))
+    c.if-left-eq0.false (limits_held o.k q.limits (w.len + 1)) (p.held o.k c.requires.1) (rw e.1 at c.in_err-next-in-Splitting.ensures))
 
 pub high_half-requires : goal.high_half-requires
 high_half-requires t c = let a = c.args in let o = a.self.now in let w = a.way.now in
@@ -42,12 +42,12 @@ returns-in-Closing t c = let a = c.args in let o = a.self.now in let w = a.way.n
     closed_leaf o.ds.now o.k (marked o.marks.now) w.len (limits_held o.k w.limits w.len) a.at a.left c.in-Closing.end (sym (ap Some c.in-Closing.is) ∙ c.in_ok-end.ensures.0)
 
 pub returns-in_ok-next-in-Splitting : goal.returns-in_ok-next-in-Splitting
-returns-in_ok-next-in-Splitting t c = let a = c.args in let o = a.self.now in let w = a.way.now in let q = c.push in
+returns-in_ok-next-in-Splitting t c = let a = c.args in let o = a.self.now in let w = a.way.now in let q = c.push.new.self in let e = c.push.ensures in
     let few : w.len < 14 = omega (arith, c.requires.2, c.if-left-eq0.false) in
-    let p = put_first w.limits q.new.self.limits w.len _ q.ensures.0 few c.requires.3 _ c.low_half.ensures in
-    let r = put_second w.limits q.new.self.limits w.len _ q.ensures.0 few c.requires.3 c.high_half.result _ c.high_half.ensures in
+    let p = put_first w.limits q.limits w.len _ e.0 few c.requires.3 _ c.low_half.ensures in
+    let r = put_second w.limits q.limits w.len _ e.0 few c.requires.3 c.high_half.result _ c.high_half.ensures in
     closed_second o.ds.now o.k (marked o.marks.now) w.len (limits_held o.k w.limits w.len) a.at a.left (sym (ap Some c.in-Splitting.is) ∙ c.in_ok-end.ensures.0)
     c.if-left-eq0.false
-    (limits_held o.k q.new.self.limits (w.len + 1)) (limits_held o.k (set q.new.self.limits w.len c.high_half.result) (w.len + 1))
+    (limits_held o.k q.limits (w.len + 1)) (limits_held o.k (set q.limits w.len c.high_half.result) (w.len + 1))
     c.in_ok-next-in-Splitting.next _ (p.held o.k c.requires.1) (r.held o.k c.requires.1)
-    (rw q.ensures.1 at c.in_ok-next-in-Splitting.ensures) (rw q.ensures.1 at c.closes_at-in-Splitting.ensures)
+    (rw e.1 at c.in_ok-next-in-Splitting.ensures) (rw e.1 at c.closes_at-in-Splitting.ensures)

@@ -1,4 +1,0 @@
-use Rattle.cell_labels.proofs.against_by.Goals as goal
-
-pub returns-then-there : goal.returns-then-there
-returns-then-there c = rw c.if-there.true c.opposite.ensures
