@@ -119,6 +119,7 @@ fn with_every(
     requires { (length old ≡ 6) × (f.0 < most_entries) }
     ensures { Grown old result (entry_shows cs.now m.now (value_of x) above f.0) }
 {
+    // By its fields: the concept of each entry would be read whole.
     let g = fields_at(cs, f);
     if g.kind == 3 {
         let carry = m[(16 + g.role % 16) as usize];
@@ -144,7 +145,7 @@ pub fn shown_of(cs: &[u8], m: &[u16; 49], x: Label, rows: &Rows, above: [u16; 6]
     out
 }
 
-// Whether two masks have a role in common.
+// Whether two masks have a role in common: `Bits::meets`, told role by role, as what a cell shows is.
 fn meet(x: u16, y: u16) -> bool
     ensures { result ≡ any_below 16 (λ t. has x t && has y t) }
 {

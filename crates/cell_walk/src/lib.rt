@@ -22,6 +22,7 @@ fn join_if(x: u16, y: u16, inside: bool) -> u16
 fn rows_changed(c: u8) -> u8
     ensures { FirstChange c result }
 {
+    // `find` gives the place of that row, and what is asked is how many there are up to it.
     for i in 0..6 {
         if !(c as u16).has(i) {
             return i + 1;

@@ -49,6 +49,7 @@ fn kinds_after(list: bool, second: &[u8]) -> Result<Pieces, Refusal>
                 Err(Reason::Claim.whole())
             }
         }
+        // A piece that is off is 9, one of another kind 24: an arm for each.
         Some(Head::RefutationOf(_)) => Err(Reason::Claim.whole()),
         None => Err(Reason::Head.whole()),
     }

@@ -94,6 +94,7 @@ fn raise(buf: &mut [u8], at: usize, n: u8, t: u16, a: &[u16; 49])
     ensures { Masks at (raised_mask buf.old at t a.now) buf.old (n * n) buf.new }
 {
     let mut p = at;
+    // The place is carried along: a mask is two bytes, and `put_mask` asks for the first.
     for i in 0..(n as u16) * (n as u16) {
         let m = raised(mask2(buf, p), t, a);
         put_mask(buf, p, m);

@@ -29,7 +29,8 @@ pub fn directory_ok(d: &[u8]) -> bool
     pairs_fill(d, 0, n, 4 * (n as u16))
 }
 
-// The parts of a description: roles, concepts, question, and roles that never share a filler.
+// The parts of a description: roles, concepts, question, and roles that never share a filler. One line each under the name that contracts
+// give it, which is plainer than a number.
 pub fn roles_part(d: &[u8]) -> &[u8]
     ensures { result.now ≡ roles_part d.now }
 {

@@ -32,7 +32,7 @@ pub fn lay_parent(buf: &mut [u8], at: usize, p: RoleNo)
     lay_role(buf, at, transitive, parents);
 }
 
-// The bytes of an entry, at a place.
+// The bytes of an entry, at a place. Two bytes of its number: the editor is given a number of any size, and refuses it before this.
 pub fn lay_entry(buf: &mut [u8], at: usize, f: Fields)
     ensures { buf.new ≡ laid_in buf.old at (six_bytes f) }
 {

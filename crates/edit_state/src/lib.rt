@@ -133,6 +133,7 @@ pub fn put_root(st: &mut [u8], literal: u8) -> Result<(), Refusal>
     if !is_literal(literal, count_entries(st)) {
         return Err(Reason::Question.whole());
     }
+    // The state is bytes that a caller in C lends: a flag is one of them.
     st[2] = 1;
     st[QUERY_FROM] = literal;
     Ok(())

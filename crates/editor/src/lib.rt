@@ -48,7 +48,8 @@ pub fn start() -> Editor
     holding([0; STATE_BYTES])
 }
 
-// Adds a role with its transitive byte, and no parents.
+// Adds a role with its transitive byte, and no parents. (The five operations are one line but for the call: a function over that call would
+// have its contract as a premise, and each would prove it.)
 pub fn add_role(s: Editor, transitive: u8) -> Result<Editor, Refusal>
     ensures { (T : Draft) → Holds s T → Edits s T (new_role transitive) result }
 {

@@ -19,11 +19,12 @@ impl From<Refusal> for Fault {
 }
 
 impl Fault {
-    // The number by which a row names it, if it can: a refusal's.
-    fn number(self) -> Option<u8> {
+    // The number by which a row names it: a refusal's, or 255, which no refusal has. It stays a number: a row may name it too, and what the
+    // program prints of such a row is what it printed.
+    fn number(self) -> u8 {
         match self {
-            Fault::Refused(r) => Some(r.reason.number()),
-            Fault::Unplayable => None,
+            Fault::Refused(r) => r.reason.number(),
+            Fault::Unplayable => 255,
         }
     }
 
@@ -53,10 +54,10 @@ impl From<Result<usize, Fault>> for Answer {
 }
 
 impl Answer {
-    // What a row says of it first: 0, or the number of a fault; of what cannot be played it says nothing.
-    fn number(self) -> Option<u8> {
+    // What a row says of it first: 0, or the number of a fault.
+    fn number(self) -> u8 {
         match self.written {
-            Ok(_) => Some(0),
+            Ok(_) => 0,
             Err(f) => f.number(),
         }
     }
@@ -76,7 +77,7 @@ impl Answer {
     pub(crate) fn agrees(self, want: &[u8]) -> bool {
         let said = field(want, 0, b':');
         let digits = digits_of(want).len();
-        let number = said.len() != 0 && self.number().map(usize::from) == Some(number(said));
+        let number = said.len() != 0 && number(said) == usize::from(self.number());
         let size = digits / 2 == self.size() && digits % 2 == 0;
         number && size && self.place() == 0 && self.clean
     }
@@ -84,15 +85,13 @@ impl Answer {
 
 impl Display for Answer {
     fn fmt<W: fmt::Write>(&self, f: &mut fmt::Formatter<W>) -> fmt::Result {
-        match self.number() {
-            Some(number) => write!(
-                f,
-                "answered {number} {}, wrote {} bytes",
-                self.place(),
-                self.size()
-            )?,
-            None => f.write_str("could not be played")?,
-        }
+        write!(
+            f,
+            "answered {} {}, wrote {} bytes",
+            self.number(),
+            self.place(),
+            self.size()
+        )?;
         if self.clean {
             return Ok(());
         }
@@ -124,8 +123,7 @@ impl Tally {
     pub(crate) fn add(&mut self, a: Answer) {
         match a.written {
             Ok(size) => count(&mut self.done, usize::from(size != 0)),
-            Err(Fault::Refused(r)) => self.refusals.add(usize::from(r.reason.number())),
-            Err(Fault::Unplayable) => {}
+            Err(f) => self.refusals.add(usize::from(f.number() % 32)),
         }
     }
 

@@ -43,7 +43,8 @@ fn lower_roles(t: &[Role; 16], n: u8) -> [u16; 16]
     out
 }
 
-// The mask `m` of literal `l` with the role of the entry with these fields, if that is an "every" of the literal.
+// The mask `m` of literal `l` with the role of the entry with these fields, if that is an "every" of the literal. Fields, and not the
+// concept: test 7 tells what it answers of entries that test 4 refuses, too.
 fn with_every(m: u16, g: Fields, l: u8) -> u16
     ensures { result ≡ every_put m g l }
 {

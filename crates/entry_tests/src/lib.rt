@@ -13,7 +13,8 @@ ghost use Rattle.entry_tests.specs.Entries.{simple_at, twin_at};
 use roles::Role;
 use tables::{EntryNo, Fields, entry_count, fields_at};
 
-// Test 5 of the entry with the fields `g`, by the record of its role.
+// Test 5 of the entry with the fields `g`, by the record of its role. Tests 5 to 7 go by fields and not by the concept: what they promise
+// is of every part, also of one that test 4 refuses.
 fn counts_simple(g: Fields, x: Role) -> bool
     ensures { result ≡ (ltb g.kind 4 || x.simple) }
 {

@@ -23,7 +23,8 @@ use words::Bits;
 
 // Whether each edge of role `r` leads to a label with `l`, if `held`, and with `m`, if `on`: in one pass if both are asked.
 fn both_if(held: bool, on: bool, t: &Targets, r: RoleNo, l: u8, m: u8) -> bool
-    ensures { let have = all_have (label_of t.now.s.layout t.now.s.bytes.now) t.now.es.now r.0 in result ≡ ((held ⇒ have l) && (on ⇒ have m)) }
+    ensures { let have = all_have (label_of t.now.s.layout t.now.s.bytes.now) t.now.es.now r.0 in
+        result ≡ ((held ⇒ have l) && (on ⇒ have m)) }
 {
     if held & on {
         return t.all_have_both(r, l, m);
@@ -108,7 +109,7 @@ pub fn test_fillers(
 ) -> Result<(), Refusal>
     ensures { let r = record.now in let label = label_of r.s.layout r.s.bytes.now in
         refusal_of result ≡ refuse r.i (unless (everys_with cs.now label src.now (value_of r.x) r.es.now) 14
-            (unless (counts_code cs.now label (value_of r.x) r.es.now) 15 none)) none }
+        (unless (counts_code cs.now label (value_of r.x) r.es.now) 15 none)) none }
 {
     let mut rows = Rows {
         masks: [0; MOST_EDGES],

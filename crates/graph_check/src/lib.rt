@@ -67,7 +67,8 @@ impl<'a> Graph<'a> {
         need: Label,
     ) -> Result<(), Refusal>
         ensures { let g = self.now in let o = g.o.now in
-            refusal_of result ≡ refuse i (record_with o.masks o.count o.concepts.now src.now (value_of need) g.s.layout g.s.bytes.now g.n i) none }
+            let code = record_with o.masks o.count o.concepts.now src.now (value_of need) g.s.layout g.s.bytes.now g.n in
+            refusal_of result ≡ refuse i (code i) none }
     {
         let o = self.o;
         let x = self.s.label(i);
@@ -137,6 +138,7 @@ pub fn test_graph(o: &Opening, want: Label, s: &[u8]) -> Result<(), Refusal>
             graph.test_forms()?;
             graph.test_records(want)
         },
+        // An arm for each head that is none of a graph: that neither passes is guarded in each.
         Some(Head::RefutationOf(_)) => Err(no_graph),
         None => Err(no_graph),
     }

@@ -113,7 +113,7 @@ fn disjoints_ok(ps: &[u8], t: &[Role; 16], n: u8) -> bool
     (0..disjoint_count(ps)).all(|i| disjoint_ok(ps, t, n, i))
 }
 
-// Tests 5 to 8 and 26, with the first `n` role records: `t` has all 16, as `role_table` promises them.
+// Tests 5 to 8 and 26, with the first `n` role records: `t` has always all 16, as `role_table` promises.
 fn test_later(p: Parts, t: &[Role; 16], n: u8) -> Result<(), Refusal>
     requires { (length p.concepts.now / 6 ≤ most_entries) × (n ≤ 16) }
     ensures { refusal_of result ≡ wholly (later_test p.entry.concepts.now p.entry.query.now p.entry.disjoint.now t.now (up_to 16 n)) }

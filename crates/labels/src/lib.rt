@@ -29,7 +29,8 @@ const WORD_LITERALS: u8 = 32;
 
 const WORD_ENTRIES: u8 = WORD_LITERALS / 2;
 
-// Literals 64 to 127, and 0 to 63.
+// Literals 64 to 127, and 0 to 63. No `words::Bits`: what a set is put together of there, a word of its own, is here two, and no label is
+// asked whether it meets another.
 #[derive(Clone, Copy)]
 pub struct Label {
     high: u64,

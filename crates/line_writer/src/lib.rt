@@ -86,7 +86,7 @@ fn lay_row(buf: &mut [u8], at: usize, es: &[u8], d: u8, k: u8)
     }
 }
 
-// The transitive ones of so many roles.
+// The transitive ones of so many roles. A mask of 16 places: what `set_where` gives has 64.
 fn transitive_roles(a: &[u16; 49], roles: u8) -> u16
     ensures { result ≡ transitives_in a.now roles }
 {
@@ -115,10 +115,7 @@ impl Plan<'_> {
         ensures { (result ≡ element_names self.now.concepts.now self.now.graph.layout self.now.graph.bytes.now self.now.copies z)
             × (result < 2 ^ (8 * name_bytes self.now.graph.layout.wide)) }
     {
-        name_mask(
-            self.concepts,
-            self.graph.label(z / self.copies),
-        )
+        name_mask(self.concepts, self.graph.label(z / self.copies))
     }
 
     // Where the role masks begin.
@@ -143,7 +140,12 @@ impl Plan<'_> {
     {
         for z in 0..self.size {
             let m = self.names(z);
-            put_names(buf, name_at(z, self.graph.layout.wide), m, self.graph.layout.wide);
+            put_names(
+                buf,
+                name_at(z, self.graph.layout.wide),
+                m,
+                self.graph.layout.wide,
+            );
         }
     }
 

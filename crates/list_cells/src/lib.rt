@@ -25,6 +25,7 @@ use roles::disjoint::compatible;
 use rows::{Rows, cell_count};
 
 // What each row of a step gives to the cells: the mask of its role, what it shows of its own cells, and what of others that have its role.
+// Three arrays, and no array of structs: each is made by a function that tells it (`own_of`, `shown_of`, `against_of`).
 #[derive(Clone, Copy)]
 struct ByRow {
     own: [u16; 6],
@@ -53,7 +54,8 @@ fn mark_ok(m: &[u16; 49], roles: u16, cell: u8) -> bool
     if cell == 255 { free } else { !free }
 }
 
-// Where a walk over cells ended: the cell that it came to, and how many rows came in or went out on the way.
+// Where a walk over cells ended: the cell that it came to, and how many rows came in or went out on the way. `Tally` tells both of a walk
+// that failed too, so that either case of its Result has one.
 #[derive(Clone, Copy)]
 struct Walk {
     cells: u8,
@@ -99,8 +101,8 @@ impl<'a> CellTest<'a> {
     // Test 18, cell by cell, up to the first that fails, at which the walk is an `Err`. The roles are carried from each cell to the next.
     fn walk_cells(&self, rows: &Rows, ds: &[u8]) -> Result<Walk, Walk>
         ensures { Tally (up_to 6 rows.now.count) (cell_fine self.now.s.layout.marks self.now.cs.now self.now.m.now
-            (label_of self.now.s.layout self.now.s.bytes.now) (value_of self.now.x) (rows_held rows.now.held (up_to 6 rows.now.count)) ds.now
-            (up_to 6 rows.now.count)) (is_ok result) (ended result).cells (ended result).changes }
+            (label_of self.now.s.layout self.now.s.bytes.now) (value_of self.now.x)
+            (rows_held rows.now.held (up_to 6 rows.now.count)) ds.now (up_to 6 rows.now.count)) (is_ok result) (ended result).cells (ended result).changes }
     {
         let n = up_to(6, rows.count as usize);
         let end = cell_count(rows.count) as u8;
@@ -128,7 +130,8 @@ impl<'a> CellTest<'a> {
     // Test 18: a cell is marked as barred exactly if its roles bar it, and one that cites a record has the record's label within its known
     // label.
     pub fn cells_ok(&self, rows: &Rows, ds: &[u8]) -> bool
-        ensures { result ≡ cells_code self.now.s.layout.marks self.now.cs.now self.now.m.now (label_of self.now.s.layout self.now.s.bytes.now)
+        ensures { result ≡ cells_code self.now.s.layout.marks self.now.cs.now self.now.m.now
+            (label_of self.now.s.layout self.now.s.bytes.now)
             (value_of self.now.x) (rows_held rows.now.held (up_to 6 rows.now.count)) ds.now (up_to 6 rows.now.count) }
     {
         self.walk_cells(rows, ds).is_ok()

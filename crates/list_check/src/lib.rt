@@ -42,7 +42,7 @@ impl<'a> List<'a> {
 
     // Test 10 of record `i`.
     fn test_form(&self, i: u8) -> Result<(), Refusal>
-        ensures { refusal_of result ≡ refuse i (form_of self.now.s.layout.marks (edges_part self.now.s.layout self.now.s.bytes.now) i) none }
+        ensures { let s = self.now.s in refusal_of result ≡ refuse i (form_of s.layout.marks (edges_part s.layout s.bytes.now) i) none }
     {
         if !self.form_ok(i) {
             return Err(Reason::Form.at(i));
@@ -52,7 +52,7 @@ impl<'a> List<'a> {
 
     // Test 10 of the `n` records.
     fn test_forms(&self, n: u8) -> Result<(), Refusal>
-        ensures { refusal_of result ≡ refuse_from (form_of self.now.s.layout.marks (edges_part self.now.s.layout self.now.s.bytes.now)) n 0 none }
+        ensures { let s = self.now.s in refusal_of result ≡ refuse_from (form_of s.layout.marks (edges_part s.layout s.bytes.now)) n 0 none }
     {
         first_refused(n, |i| self.test_form(i))
     }
@@ -91,7 +91,8 @@ impl<'a> List<'a> {
 
     // Tests 10 and 16 to 19 of record `i` with the label `x` and the step `ds`.
     fn test_labelled(&self, i: u8, x: Label, ds: &[u8]) -> Result<(), Refusal>
-        ensures { refusal_of result ≡ refuse i (step_code self.now.s.layout.marks self.now.o.now.masks self.now.o.now.concepts.now self.now.o.now.query.now
+        ensures { refusal_of result ≡ refuse i (step_code self.now.s.layout.marks self.now.o.now.masks self.now.o.now.concepts.now
+            self.now.o.now.query.now
             (label_of self.now.s.layout self.now.s.bytes.now) i (value_of x) ds.now) none }
     {
         let record = Record {
@@ -101,6 +102,7 @@ impl<'a> List<'a> {
             cs: self.o.concepts,
         };
         record.test_step(self.o.query, ds)?;
+        // The step is the byte that its form was tested by.
         if byte(ds, 0) == 6 {
             return self.test_count(i, x, ds, byte(ds, 1));
         }
@@ -109,7 +111,8 @@ impl<'a> List<'a> {
 
     // Tests 10 and 16 to 19 of record `i`.
     fn test_record(&self, i: u8) -> Result<(), Refusal>
-        ensures { refusal_of result ≡ refuse i (record_code self.now.s.layout.marks self.now.o.now.masks self.now.o.now.concepts.now self.now.o.now.query.now
+        ensures { refusal_of result ≡ refuse i (record_code self.now.s.layout.marks self.now.o.now.masks self.now.o.now.concepts.now
+            self.now.o.now.query.now
             (label_of self.now.s.layout self.now.s.bytes.now) (edges_part self.now.s.layout self.now.s.bytes.now) i) none }
     {
         let x = self.s.label(i);
@@ -118,7 +121,8 @@ impl<'a> List<'a> {
 
     // Tests 10 and 16 to 19 of the `n` records, rising.
     fn test_records(&self, n: u8) -> Result<(), Refusal>
-        ensures { refusal_of result ≡ refuse_from (record_code self.now.s.layout.marks self.now.o.now.masks self.now.o.now.concepts.now self.now.o.now.query.now
+        ensures { refusal_of result ≡ refuse_from (record_code self.now.s.layout.marks self.now.o.now.masks self.now.o.now.concepts.now
+            self.now.o.now.query.now
             (label_of self.now.s.layout self.now.s.bytes.now) (edges_part self.now.s.layout self.now.s.bytes.now)) n 0 none }
     {
         first_refused(n, |i| self.test_record(i))
@@ -137,7 +141,8 @@ impl<'a> List<'a> {
     // Tests 10 and 16 to 20 of the `n` records.
     fn test_all(&self, want: Label, n: u8) -> Result<(), Refusal>
         requires { 1 ≤ n }
-        ensures { refusal_of result ≡ records_code self.now.s.layout.marks self.now.o.now.masks self.now.o.now.concepts.now self.now.o.now.query.now (value_of want)
+        ensures { refusal_of result ≡ records_code self.now.s.layout.marks self.now.o.now.masks self.now.o.now.concepts.now
+            self.now.o.now.query.now (value_of want)
             (label_of self.now.s.layout self.now.s.bytes.now) (edges_part self.now.s.layout self.now.s.bytes.now) n }
     {
         self.test_forms(n)?;
@@ -160,6 +165,7 @@ pub fn test_list(o: &Opening, want: Label, s: &[u8]) -> Result<(), Refusal>
     let off = Reason::Head.whole();
     match read_head(s) {
         Some(Head::RefutationOf(n)) => list.test_all(want, n),
+        // An arm for each head that is none of a list: that neither passes is guarded in each.
         Some(Head::GraphOf(_)) => Err(off),
         None => Err(off),
     }

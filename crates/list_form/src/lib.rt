@@ -83,7 +83,8 @@ fn counting_form(ds: &[u8], k: u8) -> bool
     end == ds.len()
 }
 
-// The first cell byte that is a mark: 254 where barred cells have one, else 255.
+// The first cell byte that is a mark: 254 where barred cells have one, else 255. A cell stays the byte that it is: 63 of them are read a
+// step, and whoever reads one asks a single comparison.
 fn first_mark(marks: bool) -> u8
     ensures { result ≡ cond marks 254 255 }
 {
@@ -97,8 +98,9 @@ pub fn is_mark(b: u8, marks: bool) -> bool
     first_mark(marks) <= b
 }
 
-// Test 10 of the bytes behind a label: a known step, its data, and nothing more. It does not look at cells, so that it is the same with a
-// mark for barred ones and without.
+// Test 10 of the bytes behind a label: a known step, its data, and nothing more. The step is the byte that stands there, here and where its
+// tests are chosen: as an enum its data would be read for 10 and once more for the tests. It does not look at cells, so that it is the
+// same with a mark for barred ones and without.
 pub fn step_form(ds: &[u8]) -> bool
     ensures { (marks : Bool) → result ≡ formed (step_in marks ds.now) }
 {

@@ -56,7 +56,7 @@ fn above_zero(low: u32, up: u32) -> bool
     g > 0
 }
 
-// The multiplier `m` of a limit, packed by its side.
+// The multiplier `m` of a limit, packed by its side: both sums of a cell share a word, so that one addition serves both.
 fn part(x: Limit, m: u8) -> u32
     ensures { (result ≡ packed (side_of x.side) m) × (result ≤ 16711680) }
 {
@@ -134,6 +134,7 @@ fn balanced(ps: [u32; 6], sums: [u32; 64], marks: &[bool; 64]) -> bool
 {
     let low = eight(ps[0], ps[1], ps[2]);
     let high = eight(ps[3], ps[4], ps[5]);
+    // No chain, as for the cells of a block.
     let mut off = false;
     for b in 0..8 {
         off |= block_unfair(low, high[b], sums, marks, 8 * b);

@@ -173,10 +173,7 @@ impl<'a> Record<'a> {
     {
         let n = (q as usize) + 1;
         self.cites(n < qs.len(), c, c)?;
-        self.passes(
-            within_one(&self.s, c, self.x, byte(qs, n)),
-            Reason::Step,
-        )
+        self.passes(within_one(&self.s, c, self.x, byte(qs, n)), Reason::Step)
     }
 
     // Step 5, by both cases of entry `e`.

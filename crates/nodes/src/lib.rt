@@ -23,6 +23,7 @@ fn with_rules(qs: &[u8], x: Label) -> Label
     ensures { value_of result ≡ with_rules qs.now (length qs.now - 1) (value_of x) }
 {
     let mut y = x;
+    // Not over the part from 1 on, which an empty question does not have.
     for i in 1..qs.len() {
         y = put(y, qs[i]);
     }

@@ -48,6 +48,7 @@ pub fn pairs_fill(s: &[u8], at: u8, count: u8, first: u16) -> bool
         return false;
     }
     let mut next = first as usize;
+    // A loop: what is asked of a pair hangs on where the one before ends.
     for i in 0..n {
         if read2(s, start + 4 * i) != next {
             return false;

@@ -43,7 +43,7 @@ fn lay(out: &mut [u8], at: usize, text: &[u8]) -> usize
     at + text.len()
 }
 
-// Lays the decimal digits of `n` at `at` and returns where they end.
+// Lays the decimal digits of `n` at `at` and returns where they end. By hand: each byte of the line is promised, as `write!` does not.
 fn lay_number(out: &mut [u8], at: usize, n: u8) -> usize
     requires { at + 3 ≤ length out.old }
     ensures { Digits out.old at n out.new result }

@@ -15,7 +15,8 @@ use std::array;
 use words::Bits;
 
 // A role in working memory: its two fields of the description, the roles that it is included in by any number of steps, itself among
-// them, and whether no transitive role is included in it.
+// them, and whether no transitive role is included in it. `transitive` is the byte of the description: `role_table` promises it of every
+// part, also of one whose bytes test 3 refuses.
 #[derive(Clone, Copy)]
 pub struct Role {
     pub transitive: u8,
@@ -32,7 +33,7 @@ fn own_mask(rs: &[u8], i: usize) -> u16
     mask2(rs, 3 * i + 1) | (1 << i)
 }
 
-// The mask `x`, joined with `y` if it holds `k`.
+// The mask `x`, joined with `y` if it holds `k`. (Masks are joined on a condition in three more places: each contract speaks of its own.)
 fn join(x: u16, y: u16, k: u8) -> u16
     ensures { result ≡ joined x y k }
 {

@@ -9,7 +9,8 @@ ghost use Rattle.tables.specs.Concepts.{bound_in};
 ghost use Rattle.parts.specs.Numbers.{up_to};
 ghost use Rattle.list_form.specs.ListForm.{bytes_at};
 ghost use Rattle.refutation.specs.Cells.{row_of, rows_of};
-ghost use Rattle.rows.specs.HeldRows.{without_roles, no_row, held_at, first_at, held_row, row_refusal, there, count_row, some_row, rows_held, row_in};
+ghost use Rattle.rows.specs.HeldRows.{without_roles, no_row, held_at, first_at, held_row, row_refusal, there, count_row};
+ghost use Rattle.rows.specs.HeldRows.{some_row, rows_held, row_in};
 
 use nodes::opposite;
 use parts::{byte, up_to};
@@ -41,7 +42,7 @@ pub fn cell_count(k: u8) -> usize
     COUNTS[up_to(6, k as usize) as usize]
 }
 
-// A two-byte number as a word of two bytes.
+// A two-byte number as a word of two bytes. A bound is read as a `usize`, since counts are summed up to it; a row keeps two bytes of it.
 fn narrow(n: usize) -> u16
     requires { n < 65536 }
     ensures { result ≡ n }

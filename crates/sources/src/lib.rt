@@ -23,6 +23,7 @@ impl<'a> Above<'a> {
     fn has(&self, f: EntryNo) -> bool
         ensures { result ≡ every_above self.now.above self.now.l (fields_at self.now.cs.now f.0) }
     {
+        // By its fields: most entries fail at one of them, and the concept would be read whole.
         let g = fields_at(self.cs, f);
         let higher = self.above.has(g.role);
         (g.kind == 3) & ((g.first == self.l) & higher)

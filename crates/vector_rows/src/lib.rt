@@ -65,7 +65,7 @@ pub fn number(digits: &[u8]) -> usize
     n
 }
 
-// The number that the digits say, below 256.
+// The number that the digits say, below 256: what is told of it is the rest by 256.
 pub fn small_number(digits: &[u8]) -> u8
     ensures { result ≡ number_from 0 digits.now % 256 }
 {
