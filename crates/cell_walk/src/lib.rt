@@ -10,7 +10,7 @@ ghost use Rattle.cell_walk.specs.WalkLaws.{FirstChange};
 
 use words::Bits;
 
-// The roles `x`, with those of `y` if the row comes in.
+// The roles `x`, with those of `y` if the row comes in. (As `roles::join`, with a contract of its own.)
 fn join_if(x: u16, y: u16, inside: bool) -> u16
     ensures { result ≡ cond inside (bit_or x y) x }
 {

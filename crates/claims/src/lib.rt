@@ -30,7 +30,7 @@ pub enum Pieces {
     ListAlone,
 }
 
-// The kinds where the first piece is a list, or else a graph.
+// The kinds where the first piece is a list, or else a graph. A flag: its number of records, which `Head` has too, is not asked here.
 fn kinds_after(list: bool, second: &[u8]) -> Result<Pieces, Refusal>
     ensures { result ≡ kinds_after list second.now }
 {

@@ -66,7 +66,7 @@ fn close(buf: &mut [u8], at: usize, n: u8, t: u16)
     }
 }
 
-// The mask `x` with the ancestors `above` of role `u`, if the mask `m` holds it.
+// The mask `x` with the ancestors `above` of role `u`, if the mask `m` holds it. (As `roles::join`, with a contract of its own.)
 fn with_above(x: u16, above: u16, m: u16, u: u8) -> u16
     ensures { (result ≡ cond (has m u) (bit_or x above) x) × (above < 65536) }
 {

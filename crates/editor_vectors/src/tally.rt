@@ -36,7 +36,8 @@ impl Fault {
     }
 }
 
-// An answer: how many bytes were written, or why none, and whether the buffer is right.
+// An answer: how many bytes were written, or why none, and whether the buffer is right. The flag stands beside them: a buffer may be wrong
+// after a refusal too.
 #[derive(Clone, Copy)]
 pub(crate) struct Answer {
     pub(crate) written: Result<usize, Fault>,

@@ -1,4 +1,4 @@
--- A description opened: what tests 1 to 8 and 26 refuse, and where they refuse nothing what the checker reads of the role records (02, job 4) and of the fourth part (job 5).
+-- A description opened: what tests 1 to 8 and 26 refuse, and what the checker reads of every one: the masks of the role records (02, job 4) and of the fourth part (job 5), the entries and the query.
 use Rattle.std.specs.Prelude.{ℕ, ◌≡◌, refl, List}
 use Rattle.std.proofs.Math.Option.{Option, none, some, none-ne-some}
 use Rattle.logic.specs.Refusals.{unless↔}

@@ -222,7 +222,7 @@ pub fn join(x: Label, y: Label) -> Label
     }
 }
 
-// The label with the literal `l` put in.
+// The label with the literal `l` put in. The half tells that its place is there, which `Bits::put` would ask again.
 pub fn put(x: Label, l: u8) -> Label
     ensures { value_of result ≡ label_with (value_of x) l }
 {

@@ -22,7 +22,7 @@ fn lay_rows(l: &Line, r: RoleNo, rows: &mut [u64; MOST_ELEMENTS])
     }
 }
 
-// Whether the mask `m`, if it holds `r`, holds the parents too.
+// Whether the mask `m`, if it holds `r`, holds the parents too. (`reaches_on` asks the like of two rows, which are words: one line each.)
 fn goes_up(m: u16, r: RoleNo, parents: u16) -> bool
     ensures { result ≡ (has m r.0 ⇒ within parents m) }
 {
@@ -33,7 +33,8 @@ fn goes_up(m: u16, r: RoleNo, parents: u16) -> bool
     }
 }
 
-// Whether each pair of role `r` is one of its parents' too. No chain here and in `row_closed`: with one, a reading takes five in a hundred more.
+// Whether each pair of role `r` is one of its parents' too. No chain here and in `row_closed`: with one, a reading takes five in a hundred
+// more.
 fn pairs_up(l: &Line, r: RoleNo, parents: u16) -> bool
     ensures { result ≡ up_by l.now.bytes.now l.now.rows l.now.size r.0 parents }
 {

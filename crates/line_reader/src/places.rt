@@ -33,6 +33,7 @@ fn bit_at(s: &[u8], at: usize, w: usize, e: u8) -> bool
     if w <= before {
         return false;
     }
+    // A byte is no `Bits`, and `e % 8` is a place in it.
     let m = byte(s, at + (w - 1 - before));
     (m >> (e % 8)) % 2 == 1
 }

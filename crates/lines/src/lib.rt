@@ -26,7 +26,7 @@ pub fn row_at(at: usize, size: u8, x: u8) -> usize
     at + 2 * (usize::from(x) * usize::from(size))
 }
 
-// The role mask `m` at `at`, high byte first.
+// The role mask `m` at `at`, high byte first. The room was tested once: `laying::put2` would ask for it at each of 4,096 masks.
 pub fn put_mask(buf: &mut [u8], at: usize, m: u16)
     requires { at + 2 ≤ length buf.old }
     ensures { Masks at (λ i. m) buf.old 1 buf.new }

@@ -87,6 +87,7 @@ fn split_sums(way: &[Limit; 14], k: usize, ms: &[u8]) -> [u32; 64]
     requires { (k ≤ length ms.now) × (length ms.now ≤ 14) }
     ensures { SplitSums way.now ms.now k (length ms.now) result × (get_or result 0 0 ≡ 0) }
 {
+    // Fixed memory: a sum for each cell that there may be. A limit and its multiplier have one index.
     let mut sums: [u32; 64] = [0; 64];
     for i in k..ms.len() {
         let x = way[i];
@@ -211,6 +212,7 @@ pub fn open_cells(cells: &[u8], k: u8) -> [bool; 64]
     if 6 < k {
         return marks;
     }
+    // Not over all 64: most steps have fewer cells.
     for c in 0..cell_count(k) {
         marks[c] = is_open(cells, c);
     }

@@ -46,6 +46,7 @@ fn test_cell(ds: &[u8], k: u8, i: u8, c: usize, marks: bool) -> Result<(), Refus
     if is_mark(j, marks) {
         return Ok(());
     }
+    // The owner names this form for a bad cite (docs/DECISIONS.md, section 3).
     let Some(_) = look_up(i, j) else {
         return Err(Reason::Cite.at(i));
     };

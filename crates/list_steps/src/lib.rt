@@ -88,6 +88,7 @@ impl<'a> Record<'a> {
         if !test {
             return Err(Reason::Cite.at(self.i));
         }
+        // The owner names this form for a bad cite (docs/DECISIONS.md, section 3).
         let Some(_) = look_up(self.i, c) else {
             return Err(Reason::Cite.at(self.i));
         };
@@ -111,7 +112,8 @@ impl<'a> Record<'a> {
 
     // Whether entry `e` is a "both" and the label of record `c` lies within its own with the two literals.
     fn both_within(&self, e: EntryNo, c: u8) -> bool
-        ensures { result ≡ is_both (λ a b. within (label_of self.now.s.layout self.now.s.bytes.now c) (adding (adding (value_of self.now.x) a) b))
+        ensures { result ≡ is_both (λ a b. within (label_of self.now.s.layout self.now.s.bytes.now c)
+            (adding (adding (value_of self.now.x) a) b))
             (entry_of_fields (fields_at self.now.cs.now e.0)) }
     {
         match concept_at(self.cs, e) {
@@ -138,7 +140,8 @@ impl<'a> Record<'a> {
     // Whether entry `e` is a "both" and the labels of records `c` and `d` lie within its own with the opposite of the first literal, of
     // the second.
     fn sides_within(&self, e: EntryNo, c: u8, d: u8) -> bool
-        ensures { result ≡ is_both (λ a b. within (label_of self.now.s.layout self.now.s.bytes.now c) (adding (value_of self.now.x) (opposite a))
+        ensures { result ≡ is_both (λ a b. within (label_of self.now.s.layout self.now.s.bytes.now c)
+            (adding (value_of self.now.x) (opposite a))
             && within (label_of self.now.s.layout self.now.s.bytes.now d) (adding (value_of self.now.x) (opposite b)))
             (entry_of_fields (fields_at self.now.cs.now e.0)) }
     {
@@ -193,8 +196,10 @@ impl<'a> Record<'a> {
     fn test_named(&self, qs: &[u8], ds: &[u8]) -> Result<(), Refusal>
         requires { formed (step_in self.now.s.layout.marks ds.now) ≡ true }
         ensures { refusal_of result ≡ refuse self.now.i (step_named (without_roles self.now.cs.now qs.now)
-            (label_of self.now.s.layout self.now.s.bytes.now) self.now.i (value_of self.now.x) (step_in self.now.s.layout.marks ds.now)) none }
+            (label_of self.now.s.layout self.now.s.bytes.now) self.now.i (value_of self.now.x)
+            (step_in self.now.s.layout.marks ds.now)) none }
     {
+        // By the byte that the form was tested by, as `step_form` says.
         let step = byte(ds, 0);
         let a = byte(ds, 1);
         let b = byte(ds, 2);
@@ -212,7 +217,8 @@ impl<'a> Record<'a> {
     // 10, 16 and 17 of the step `ds`.
     pub fn test_step(&self, qs: &[u8], ds: &[u8]) -> Result<(), Refusal>
         ensures { refusal_of result ≡ refuse self.now.i (step_refusal (without_roles self.now.cs.now qs.now)
-            (label_of self.now.s.layout self.now.s.bytes.now) self.now.i (value_of self.now.x) (step_in self.now.s.layout.marks ds.now)) none }
+            (label_of self.now.s.layout self.now.s.bytes.now) self.now.i (value_of self.now.x)
+            (step_in self.now.s.layout.marks ds.now)) none }
     {
         self.passes(step_form(ds), Reason::Form)?;
         self.passes(in_table(self.x, self.cs), Reason::Cite)?;

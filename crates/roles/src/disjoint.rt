@@ -14,7 +14,7 @@ pub fn disjoint_count(ps: &[u8]) -> u8
     up_to(16, ps.len() / 2)
 }
 
-// The mask of role `r` alone, of none if it is past the masks.
+// The mask of role `r` alone, of none if it is past the masks: a line that is no shorter by `Bits::put`.
 pub fn role_bit(r: u8) -> u16
     ensures { result ≡ role_bit r }
 {

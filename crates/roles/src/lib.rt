@@ -30,6 +30,7 @@ fn own_mask(rs: &[u8], i: usize) -> u16
     requires { i < 16 }
     ensures { result ≡ passed rs.now 0 i }
 {
+    // The place is known to be there: `Bits::put` would ask.
     mask2(rs, 3 * i + 1) | (1 << i)
 }
 
@@ -56,7 +57,8 @@ fn pass(a: [u16; 16], k: u8) -> [u16; 16]
     array::from_fn(|i| join(a[i], row, k))
 }
 
-// The number of roles of the part `rs`, or 16 if there are more.
+// The number of roles of the part `rs`, or 16 if there are more: what inner functions ask of a number of roles (`n ≤ 16`) is told here,
+// and a part of more is what test 2 is there to refuse.
 pub fn role_count(rs: &[u8]) -> u8
     ensures { (result ≡ role_count rs.now) × (result ≤ 16) }
 {
@@ -152,8 +154,8 @@ fn mask_of(t: &[Role; 16], ps: &[u8], i: u8) -> u16
     }
 }
 
-// The masks that evidence asks for: the ancestors of each role; behind them those of each transitive role, none for the others; then the two
-// roles of each record of the part `ps`; last the number of these records. One array of numbers: the theorems on it read it by these
+// The masks that evidence asks for: the ancestors of each role; behind them those of each transitive role, none for the others; then the
+// two roles of each record of the part `ps`; last the number of these records. One array of numbers: the theorems on it read it by these
 // places (`masks_above`, `masks_carried`, `masks_disjoint`).
 pub fn role_masks(t: &[Role; 16], ps: &[u8]) -> [u16; 49]
     ensures { result ≡ role_masks t.now ps.now }

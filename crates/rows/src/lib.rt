@@ -25,7 +25,8 @@ pub struct Row {
     pub side: Side,
 }
 
-// The rows of a step: the first `count` that an array holds, or 6 if there are more.
+// The rows of a step: the first `count` that an array holds, or 6 if there are more. Any count may stand there, as evidence has it; inner
+// functions that go by a tested one say so (`k ≤ 6`).
 #[derive(Clone, Copy)]
 pub struct Rows {
     pub held: [Row; 6],

@@ -111,6 +111,7 @@ pub fn sources(m: &[u16; 49], cs: &[u8]) -> [u64; MOST_ENTRIES as usize]
     ensures { SourcesOf m.now cs.now result }
 {
     let mut out = [0; MOST_ENTRIES as usize];
+    // Not over all 64: most tables have fewer entries.
     for e in 0..entry_count(cs) {
         out[e as usize] = entries_of(sources_at(m, cs, EntryNo(e)));
     }

@@ -10,7 +10,8 @@ ghost use Rattle.tables.specs.Concepts.{fields_struct, fields_in, concept_at, bo
 use labels::MOST_ENTRIES;
 use parts::{byte, read2, up_to};
 
-// The number of a role, and of an entry: never one for the other.
+// The number of a role, and of an entry: never one for the other. Neither has a bound by its type: both come from bytes and from the
+// editor's callers, and a number past the table is answered as such. Inner functions that read a place of the table say so in a `requires`.
 #[derive(Clone, Copy)]
 pub struct RoleNo(pub u8);
 

@@ -76,6 +76,7 @@ pub fn small_number(digits: &[u8]) -> u8
 pub fn mark_from(all: &[u8], from: usize, mark: u8) -> usize
     ensures { (result ≡ from + length (until mark (drop from all.now))) × (result ≤ max from (length all.now)) }
 {
+    // No `position`: the part from `from` on need not be there.
     for end in from..all.len() {
         if all[end] == mark {
             return end;

@@ -36,8 +36,8 @@ pub trait Bits: Copy {
         ensures { set result ≡ put_in (set self) i (ltb i width && asked) };
 }
 
-// The set with `i` put in, if `b`: for numbers of any size. A `Bits::put` of them was tried: with it the reading of a line that counts takes
-// 3.6 in a hundred more.
+// The set with `i` put in, if `b`: it promises this of numbers of any size, and `Bits::put` of a byte. With a `usize` there the reading
+// of a line that counts takes 3.6 in a hundred more (read_least).
 pub fn put(x: u64, i: usize, b: bool) -> u64
     ensures { result ≡ put_in x i (ltb i 64 && b) }
 {

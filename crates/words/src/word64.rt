@@ -1,4 +1,4 @@
-// Words of 64 digits: sets of elements or entries.
+// Words of 64 digits: sets of elements or entries. The text of mask16 but for the type, as said there.
 use super::Bits;
 
 impl Bits for u64 {
