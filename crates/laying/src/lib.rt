@@ -22,7 +22,10 @@ pub fn copy_bytes(buf: &mut [u8], at: usize, src: &[u8])
     if !has_room(buf.len(), at, src.len()) {
         return;
     }
-    buf[at..at + src.len()].copy_from_slice(src);
+    // No `copy_from_slice`: the compiler makes a call of `memmove` of it, which the library for C asks of nobody.
+    for i in 0..src.len() {
+        buf[at + i] = src[i];
+    }
 }
 
 // A number of two bytes at a place, high byte first. It too is left out as a whole.
