@@ -65,35 +65,15 @@ fn everys_of(cs: &[u8]) -> [u16; 128]
     out
 }
 
-// What test 7 is asked by: for each role the transitive roles that are included in it, and what `everys_of` gives.
-#[derive(Drop)]
-struct Asked {
-    lower: [u16; 16],
-    held: [u16; 128],
-}
-
-impl Asked {
-    // With the first `n` records.
-    fn of(cs: &[u8], t: &[Role; 16], n: u8) -> Asked
-        requires { n ≤ 16 }
-        ensures lower { LowerOf t.now n result.lower }
-        ensures held { (l : ℕ) → l < 128 → get_or result.held l 0 ≡ everys_in cs.now l }
-    {
-        Asked {
-            lower: lower_roles(t, n),
-            held: everys_of(cs),
-        }
-    }
-
-    // Test 7 of the entry with the fields `g`.
-    fn allows(&self, g: Fields) -> bool
-        ensures { result ≡ every_by g self.now.lower self.now.held }
-    {
-        if g.kind == 3 {
-            self.lower[(g.role % 16) as usize].is_within(self.held[(g.first % 128) as usize])
-        } else {
-            true
-        }
+// Test 7 of the entry with the fields `g`, with the tables of `lower_roles` and `everys_of`. Two tables that are lent, and no struct of
+// both: a function that gives one back takes 576 bytes more of the panel's stack.
+fn every_ok(g: Fields, lower: &[u16; 16], held: &[u16; 128]) -> bool
+    ensures { result ≡ every_by g lower.now held.now }
+{
+    if g.kind == 3 {
+        lower[(g.role % 16) as usize].is_within(held[(g.first % 128) as usize])
+    } else {
+        true
     }
 }
 
@@ -101,7 +81,9 @@ impl Asked {
 pub fn every_at(cs: &[u8], t: &[Role; 16], n: u8, e: EntryNo) -> bool
     ensures { result ≡ every_at cs.now t.now (up_to 16 n) e.0 }
 {
-    Asked::of(cs, t, up_to(16, n as usize)).allows(fields_at(cs, e))
+    let lower = lower_roles(t, up_to(16, n as usize));
+    let held = everys_of(cs);
+    every_ok(fields_at(cs, e), &lower, &held)
 }
 
 // Whether one of the first `n` roles is transitive.
@@ -120,6 +102,7 @@ pub fn everys_ok(cs: &[u8], t: &[Role; 16], n: u8) -> bool
     if !some_transitive(t, k) {
         return true;
     }
-    let asked = Asked::of(cs, t, k);
-    (0..entry_count(cs)).all(|e| asked.allows(fields_at(cs, EntryNo(e))))
+    let lower = lower_roles(t, k);
+    let held = everys_of(cs);
+    (0..entry_count(cs)).all(|e| every_ok(fields_at(cs, EntryNo(e)), &lower, &held))
 }

@@ -15,8 +15,8 @@ returns-then-not-some_transitive c = let g = c.args in
 
 pub returns : goal.returns
 returns c = let g = c.args in
-    let test : ℕ → Bool = λ e. every_by (fields_struct g.cs.now e) c.of-asked.result.lower c.of-asked.result.held in
+    let test : ℕ → Bool = λ e. every_by (fields_struct g.cs.now e) c.lower_roles-lower.result c.everys_of-held.result in
     all_range test _ _ _ _ c.all.ensures.ran (YieldsList-from_range 0 _ _ refl refl) (λ x b q e. search rules)
     ∙ ap (λ m. all_below m test) c.entry_count.ensures.0
-    ∙ everys_by g.cs.now g.t.now _ _ _ c.of-asked.ensures.lower c.of-asked.ensures.held
+    ∙ everys_by g.cs.now g.t.now _ _ _ c.lower_roles-lower.ensures c.everys_of-held.ensures
     ∙ ap (λ n. all_below (entry_count g.cs.now) (every_at g.cs.now g.t.now n)) c.up_to-k.ensures.0
