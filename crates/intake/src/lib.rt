@@ -202,5 +202,5 @@ pub fn open_description(d: &[u8]) -> Opening
 pub fn test_description(d: &[u8]) -> Result<(), Refusal>
     ensures { refusal_of result ≡ wholly (bytes_test d.now) }
 {
-    test_bytes(d, &role_table(roles_part(d)))
+    open_description(d).tested
 }
