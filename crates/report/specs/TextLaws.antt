@@ -34,11 +34,21 @@ over_next t u old mid new at end o e q = record {
 
 -- ---- the line of an answer
 -- the buffer's bytes, the length of the line, and the line as a part of the buffer, which lending it asks for
+pub told_over : (t old new : List ℕ) (end : ℕ) → Over t old new end
+    → (new ≡ over t old) × ((end ≡ length t) × ((end ≤ length new) × (end ≡ length (take end new))))
+told_over t old new end o = (
+  o.bytes,
+  (
+    o.size,
+    rw (o.bytes, o.size)
+        (omega (arith, length-append t (drop (length t) old)), sym (ap length (take-append_seam t (drop (length t) old)))),
+  ),
+)
+
 module _ (v w : Verdict) (old new : List ℕ) (end : ℕ) where
   pub answered : v ≡ w → Over (text_of (of_verdict w)) old new end
       → (new ≡ over (text_of (of_verdict v)) old) × ((end ≡ length (text_of (of_verdict v))) × ((end ≤ length new) × (end ≡ length (take end new))))
-  answered e o = let t = text_of (of_verdict w) in
-      rw e (o.bytes, (o.size, rw (o.bytes, o.size) (omega (arith, length-append t (drop (length t) old)), sym (ap length (take-append_seam t (drop (length t) old))))))
+  answered e o = rw e (told_over (text_of (of_verdict w)) old new end o)
 
 -- ---- the digits of a number, each stored by itself
 module _ (l : List ℕ) (at n : ℕ) (room : at + 3 ≤ length l) where

@@ -2,13 +2,14 @@
 #![tactic(auto)]
 
 ghost use Rattle.std.specs.Prelude.{◌≡◌, ◌+◌, ◌≤◌, length, take, replicate};
-ghost use Rattle.answers.specs.Answers.{of_verdict, over};
+ghost use Rattle.std.proofs.Math.Option.{some};
+ghost use Rattle.answers.specs.Answers.{REFUSED, of_verdict, answer, over};
 ghost use Rattle.report.specs.Input.{description_in, evidence_in};
 ghost use Rattle.report.specs.Cut.{longest};
 ghost use Rattle.laying.specs.Laying.{laid};
 ghost use Rattle.report.specs.Text.{text_of, Over, Digits};
 
-use answers::{Refusal, Verdict};
+use answers::Verdict;
 use laying::copy_bytes;
 use parts::{read2, span};
 
@@ -64,15 +65,24 @@ fn lay_number(out: &mut [u8], at: usize, n: u8) -> usize
 }
 
 // Lays the line of a refusal and returns its length.
-fn lay_refusal(out: &mut [u8], r: Refusal) -> usize
+fn lay_refusal(out: &mut [u8], number: u8, place: u8) -> usize
     requires { 16 ≤ length out.old }
-    ensures { Over (text_of (of_verdict (Verdict.Refused r))) out.old out.new result }
+    ensures { Over (text_of (answer REFUSED (some (record { number = number; place = place })))) out.old out.new result }
 {
     let a = lay(out, 0, b"REFUSED ");
-    let b = lay_number(out, a, r.reason.number());
+    let b = lay_number(out, a, number);
     let c = lay(out, b, b" ");
-    let d = lay_number(out, c, r.place);
+    let d = lay_number(out, c, place);
     lay(out, d, b"\n")
+}
+
+// Lays the line of a refusal of any number and record, as `write_answer` does of those that there are.
+pub fn write_refusal(number: u8, place: u8, out: &mut [u8; 16]) -> usize
+    ensures bytes { out.new ≡ over (text_of (answer REFUSED (some (record { number = number; place = place })))) out.old }
+    ensures size { result ≡ length (text_of (answer REFUSED (some (record { number = number; place = place })))) }
+    ensures part { (result ≤ length out.new) × (result ≡ length (take result out.new)) }
+{
+    lay_refusal(out, number, place)
 }
 
 // Lays the line of an answer over the first bytes of the buffer, which has room for every answer, and returns its length; the other bytes stay.
@@ -85,6 +95,6 @@ pub fn write_answer(v: Verdict, out: &mut [u8; 16]) -> usize
     match v {
         Verdict::Inhabited => lay(out, 0, b"INHABITED 0 0\n"),
         Verdict::Empty => lay(out, 0, b"EMPTY 0 0\n"),
-        Verdict::Refused(r) => lay_refusal(out, r),
+        Verdict::Refused(r) => write_refusal(r.reason.number(), r.place, out),
     }
 }

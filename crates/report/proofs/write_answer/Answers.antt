@@ -13,5 +13,6 @@ returns-in-Empty c = let w = answered _ _ _ _ _ c.in-Empty.is (over_first _ _ _ 
     record { bytes = w.0; size = w.1.0; part = w.1.1 }
 
 pub returns-in-Refused : goal.returns-in-Refused
-returns-in-Refused c = let w = answered _ _ _ _ _ c.in-Refused.is c.lay_refusal.ensures in
+returns-in-Refused c = let w = answered _ _ _ _ _ c.in-Refused.is
+    (rw (← c.number.ensures) (record { bytes = c.write_refusal.ensures.bytes; size = c.write_refusal.ensures.size })) in
     record { bytes = w.0; size = w.1.0; part = w.1.1 }
