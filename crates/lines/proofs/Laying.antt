@@ -1,10 +1,12 @@
 -- Numbers laid one after another: what each loop of a writer keeps.
-use Rattle.std.specs.Prelude.{ℕ, suc, ◌+◌, ◌-◌, ◌*◌, ◌≤◌, ◌<◌, ◌≡◌, refl, ◌⊎◌, Bool, List, length, set}
-use Rattle.std.proofs.Common.{sym, ◌∙◌, ap, ap₂, inl, inr, arith, mul-le-mul_left, mul-suc, mul-add, length-set, get_or-set_same, get_or-set_other}
+use Rattle.std.specs.Prelude.{ℕ, suc, ◌+◌, ◌-◌, ◌*◌, ◌/◌, ◌%◌, ◌^◌, ◌≤◌, ◌<◌, ◌≡◌, refl, ◌⊎◌, Bool, List, length, set}
+use Rattle.std.proofs.Common.{sym, ◌∙◌, ap, ap₂, inl, inr, arith, mul-le-mul_left, mul-suc, mul-add, div-one, pow-suc, length-set, get_or-set_same, get_or-set_other}
 use Rattle.std.proofs.Math.Decide.{dec_lt}
+use Rattle.std.proofs.Math.Nat.{div-div-eq-div-mul}
 use Rattle.parts.specs.Numbers.{byte_at, num2}
 use Rattle.labels.specs.Labels.{name_bytes, names_in}
-use Rattle.lines.specs.Numerals.{Local}
+use Rattle.lines.specs.Lines.{byte_of}
+use Rattle.lines.specs.Numerals.{Local, Numeral}
 use Rattle.lines.proofs.Numerals.{two, names}
 use Rattle.lines.specs.Laying.{Masks, Laid}
 
@@ -93,3 +95,47 @@ laid_two l at v w m h e = record {
 pub mask_more : (at y v w : ℕ) (g : ℕ → ℕ) (old new : List ℕ) → at + 2 * y + 1 < length old → v * 256 + w ≡ g y → Masks at g old y new
     → Masks at g old (y + 1) (put2 new (at + 2 * y) v w)
 mask_more at y v w g old new h e l = laid_more 2 num2 two_local at y (g y) g old new _ l (laid_two new (at + 2 * y) v w (g y) (omega (arith, l.whole)) e) refl
+
+-- ---- a number of w bytes, stored from the last byte to the first
+-- the bytes of m from byte i on stand at `at`, and all others are as in `old`
+pub record Ending (w at m : ℕ) (old : List ℕ) (i : ℕ) (new : List ℕ) : Type 0 where
+  pub whole : length new ≡ length old
+  pub bytes : (j : ℕ) → i ≤ j → j < w → byte_at new (at + j) ≡ byte_of w m j
+  pub others : (p : ℕ) → (p < at + i) ⊎ (at + w ≤ p) → byte_at new p ≡ byte_at old p
+
+module _ (w at m : ℕ) (old : List ℕ) where
+  pub ending_none : (i : ℕ) → i ≡ w → Ending w at m old i old
+  ending_none i e = record { whole = refl; bytes = λ j h k. absurd (omega arith); others = λ p _. refl }
+
+  -- one byte more: the last of what is left of m
+  pub ending_more : (i rest : ℕ) (mid : List ℕ) → 1 ≤ i → i ≤ w → at + w ≤ length old → rest ≡ m / 256 ^ (w - i) → Ending w at m old i mid
+      → Ending w at m old (i - 1) (set mid (at + (i - 1)) (rest % 256))
+  ending_more i rest mid some h room e r = record {
+    whole = length-set mid (at + (i - 1)) (rest % 256) ∙ r.whole;
+    bytes = λ j l g. go j l g (dec_lt j i);
+    others = λ p o. get_or-set_other mid (at + (i - 1)) p (rest % 256) 0 (λ q. elim o [ inl z ↦ omega arith | inr z ↦ omega arith ])
+        ∙ r.others p (elim o [ inl z ↦ inl (omega arith) | inr z ↦ inr z ]);
+  }
+    where
+      go : (j : ℕ) → i - 1 ≤ j → j < w → Dec (j < i) → byte_at (set mid (at + (i - 1)) (rest % 256)) (at + j) ≡ byte_of w m j
+      go j l g (yes k) = let z : j ≡ i - 1 = omega arith in let y : w - i ≡ w - 1 - (i - 1) = omega arith in
+          rw z (get_or-set_same mid (at + (i - 1)) (rest % 256) 0 (omega (arith, r.whole)) ∙ rw e (ap (λ (n : ℕ). m / 256 ^ n % 256) y))
+      go j l g (no k) = get_or-set_other mid (at + (i - 1)) (at + j) (rest % 256) 0 (λ q. omega arith) ∙ r.bytes j (omega arith) g
+
+  -- what is left of m: at first all of it, then without the bytes stored
+  pub rest_none : (i : ℕ) → i ≡ w → m ≡ m / 256 ^ (w - i)
+  rest_none i e = let z : w - i ≡ 0 = omega arith in rw z (sym (div-one m))
+
+  pub rest_more : (i rest : ℕ) → 1 ≤ i → i ≤ w → rest ≡ m / 256 ^ (w - i) → rest / 256 ≡ m / 256 ^ (w - (i - 1))
+  rest_more i rest some h e = let z : suc (w - i) ≡ w - (i - 1) = omega arith in
+      ap (λ (n : ℕ). n / 256) e ∙ div-div-eq-div-mul m (256 ^ (w - i)) 256 ∙ ap (λ (n : ℕ). m / n) (sym (pow-suc 256 (w - i)))
+      ∙ ap (λ (n : ℕ). m / 256 ^ n) z
+
+  pub ending_all : (read : List ℕ → ℕ → ℕ) (new : List ℕ) → Numeral w read → m < 2 ^ (8 * w) → Ending w at m old 0 new
+      → Laid w read at (λ i. m) old 1 new
+  ending_all read new k few r = record {
+    whole = r.whole;
+    numbers = λ i h. let z : i ≡ 0 = omega arith in let y : at + w * 0 ≡ at = omega arith in
+        rw (z, y) (k.made new at m few (λ j g. r.bytes j (omega arith) g));
+    others = λ p o. r.others p (elim o [ inl q ↦ inl (omega arith) | inr q ↦ inr (omega arith) ]);
+  }

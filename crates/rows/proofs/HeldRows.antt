@@ -1,6 +1,6 @@
 -- Laws of the rows that the code holds.
 use Rattle.std.specs.Prelude as Rust
-use Rattle.std.specs.Prelude.{Some, None, ℕ, zero, suc, ◌+◌, ◌-◌, ◌<◌, ◌≤◌, ◌≡◌, refl, List, [], ◌∷◌, cond, ltb, length, get_or, take}
+use Rattle.std.specs.Prelude.{Some, None, ℕ, zero, suc, ◌+◌, ◌-◌, ◌<◌, ◌≤◌, ◌≡◌, refl, List, [], ◌∷◌, cond, ltb, length, get_or, take, replicate}
 use Rattle.std.proofs.Common.{sym, ◌∙◌, ap, ap₂, arith, lt-ltb, le-ltb, get_or-take}
 use Rattle.std.proofs.Math.Option.{Option, none, some}
 use Rattle.std.proofs.Math.Decide.{dec_lt}
@@ -136,6 +136,16 @@ rows_held_lem cs ds rows k few e = go k (λ i. given (held_at rows i)) (λ i. li
         → tabulate k f ≡ rows_of (without_roles cs []) (tabulate k g)
     go zero f g h = refl
     go (suc k) f g h = ap₂ ◌∷◌ (h 0 (omega arith)) (go k (λ i. f (suc i)) (λ i. g (suc i)) (λ i l. h (suc i) (omega arith)))
+
+-- six rows that are none have none at every place
+pub none_behind : (x : Row) → x ≡ no_row → (m : ℕ) → get_or (replicate 6 x) m no_row ≡ no_row
+none_behind x e zero = e
+none_behind x e (suc zero) = e
+none_behind x e (suc (suc zero)) = e
+none_behind x e (suc (suc (suc zero))) = e
+none_behind x e (suc (suc (suc (suc zero)))) = e
+none_behind x e (suc (suc (suc (suc (suc zero))))) = e
+none_behind x e (suc (suc (suc (suc (suc (suc m)))))) = refl
 
 -- behind the rows that are filled stands none
 pub behind : (f : ℕ → Row) (n : ℕ) (rows : List Row) → length rows ≡ 6 → ((i : ℕ) → i < 6 → get_or rows i no_row ≡ cond (ltb i n) (f i) no_row)
